@@ -3,9 +3,9 @@
 #![tactic(auto)]
 
 use std::io;
+use try_support::input;
 use try_support::line::{Line, Word};
 use try_support::tally::Tally;
-use try_support::{input, line, print, tally};
 
 mod answered; // answered.rt: whether an answer is the one that a line says
 mod capped; // capped.rt: plain and capped runs, runs from a lower bound and the training seat (tests/model/runs.py)
@@ -16,120 +16,153 @@ mod questions; // questions.rt: questions about lists (tests/questions/model.py)
 mod plain; // plain.rt: document 01's calls and single-file maps (tests/model)
 mod reformulations; // reformulations.rt: a map in the place of another (tests/reformulation/model.py)
 
+// The families of calls, by the numbers of their sections.
+#[derive(Clone, Copy)]
+enum Family {
+    Plain,
+    Capped,
+    Desks,
+    Several,
+    Engine,
+    Questions,
+    Reformulations,
+}
+
+impl Family {
+    // The family of a section's number.
+    fn numbered(n: u64) -> Option<Family> {
+        match n {
+            1 => Some(Family::Plain),
+            2 => Some(Family::Capped),
+            3 => Some(Family::Desks),
+            4 => Some(Family::Several),
+            5 => Some(Family::Engine),
+            6 => Some(Family::Questions),
+            7 => Some(Family::Reformulations),
+            _ => None,
+        }
+    }
+}
+
 // What was read so far of the line and the word under way; the family of the section; and what its lines before came to.
 #[derive(Clone, Copy)]
 struct State {
     line: Line,
     word: Word,
-    family: u64,
+    family: Option<Family>,
     tally: Tally,
 }
 
 fn main(rt: HostRuntime) -> io::Result<()> {
     let mut s = State {
-        line: line::empty(),
-        word: line::no_word(),
-        family: 0,
-        tally: tally::none(),
+        line: Line::new(),
+        word: Word::new(),
+        family: None,
+        tally: Tally::new(),
     };
-    let mut pieces: u64 = 128;
-    while 0 < pieces {
-        s = piece(&rt, s)?;
-        pieces -= 1;
+    for _ in 0..128u64 {
+        piece(&rt, &mut s)?;
     }
-    let t = s.tally;
-    report(&rt, s.family, t)
+    report(&rt, s.family, &s.tally)
 }
 
 // The next 65,536 bytes of the text, or what is left of it.
-fn piece(rt: &(impl Input + Print), s: State) -> io::Result<State> {
+fn piece(rt: &(impl Input + Print), s: &mut State) -> io::Result<()> {
     let mut text = [0u8; 65536];
     let n = input::read_full(&mut rt.reader(), &mut text)?;
-    read(rt, s, &text[..n])
-}
-
-fn read(rt: &impl Print, s: State, text: &[u8]) -> io::Result<State> {
-    let mut line = s.line;
-    let mut word = s.word;
-    let mut family = s.family;
-    let mut tally = s.tally;
-    let mut i = 0;
-    while i < text.len() {
-        let b = text[i];
-        i += 1;
-        if b' ' < b {
-            word = line::longer(word, b);
-            continue;
-        }
-        line = line::with(line, word);
-        word = line::no_word();
-        if b == b' ' {
-            continue;
-        }
-        tally = counted(rt, family, tally, line)?;
-        family = section(family, line);
-        line = line::empty();
+    for b in &text[..n] {
+        read(rt, s, *b)?;
     }
-    Ok(State {
-        line,
-        word,
-        family,
-        tally,
-    })
+    Ok(())
 }
 
-// The family after a line: another where the line begins a section.
-fn section(family: u64, l: Line) -> u64 {
-    let x = l.operands;
-    if l.kind == b'@' {
-        return x[0];
+// One more byte: of a word, the end of a word, or the end of a line.
+fn read(rt: &impl Print, s: &mut State, b: u8) -> io::Result<()> {
+    if b' ' < b {
+        s.word.push(b);
+        return Ok(());
     }
-    family
+    s.line.push(s.word);
+    s.word = Word::new();
+    if b != b' ' {
+        ended(rt, s)?;
+        s.line = Line::new();
+    }
+    Ok(())
 }
 
-// What is counted after a line. One that begins a section has no call, and what was counted in the section before is reported.
-fn counted(rt: &impl Print, family: u64, t: Tally, l: Line) -> io::Result<Tally> {
-    let kind = l.kind;
+// Counts a line that is at its end. One that begins a section has no call, and what was counted in the section before is reported.
+fn ended(rt: &impl Print, s: &mut State) -> io::Result<()> {
+    let Some(kind) = s.line.kind else {
+        s.tally.line();
+        return Ok(());
+    };
     if kind == b'@' {
-        report(rt, family, t)?;
-        return Ok(tally::none());
+        report(rt, s.family, &s.tally)?;
+        s.tally = Tally::new();
+        s.family = Family::numbered(s.line.operands[0]);
+        return Ok(());
     }
-    let u = tally::with_line(t);
-    if kind == 0 || kind == b'#' {
-        return Ok(u);
+    s.tally.line();
+    if kind != b'#' {
+        let agreed = agrees(s.family, kind, &s.line);
+        s.tally.call(rt, kind, agreed)?;
     }
-    tally::with_call(rt, u, kind, agrees(family, l))
+    Ok(())
 }
 
-// Whether the call of a line comes to what the line says.
-fn agrees(family: u64, l: Line) -> bool {
+// Whether the call of a line comes to what the line says. One whose tables have no room is not made.
+fn agrees(family: Option<Family>, kind: u8, l: &Line) -> bool {
+    let Some(family) = family else {
+        return false;
+    };
+    l.fits()
+        && match family {
+            Family::Plain => plain::agrees(kind, l),
+            Family::Capped => capped::agrees(kind, l),
+            Family::Desks => desks::agrees(kind, l),
+            Family::Several => several::agrees(l),
+            Family::Engine => engine_calls::agrees(kind, l),
+            Family::Questions => questions::agrees(kind, l),
+            Family::Reformulations => reformulations::agrees(kind, l),
+        }
+}
+
+// The name of the family, and what the lines of its section came to: by the kinds of calls, and all together.
+fn report(rt: &impl Print, family: Option<Family>, t: &Tally) -> io::Result<()> {
+    let Some(family) = family else {
+        return Ok(());
+    };
     match family {
-        1 => plain::agrees(l),
-        2 => capped::agrees(l),
-        3 => desks::agrees(l),
-        4 => several::agrees(l),
-        5 => engine_calls::agrees(l),
-        6 => questions::agrees(l),
-        7 => reformulations::agrees(l),
-        _ => false,
+        Family::Plain => {
+            println!(rt; "plain")?;
+            t.report_kinds(rt, &plain::KINDS)?;
+            t.report(rt)
+        }
+        Family::Capped => {
+            println!(rt; "capped")?;
+            t.report_kinds(rt, &capped::KINDS)?;
+            t.report(rt)
+        }
+        Family::Desks => {
+            println!(rt; "desks")?;
+            t.report(rt)
+        }
+        Family::Several => {
+            println!(rt; "several")?;
+            t.report(rt)
+        }
+        Family::Engine => {
+            println!(rt; "engine")?;
+            t.report(rt)
+        }
+        Family::Questions => {
+            println!(rt; "questions")?;
+            t.report_kinds(rt, &questions::KINDS)
+        }
+        Family::Reformulations => {
+            println!(rt; "reformulation")?;
+            t.report_kinds(rt, &reformulations::KINDS)
+        }
     }
-}
-
-// The name of the family, and what the lines of its section came to.
-fn report(rt: &impl Print, family: u64, t: Tally) -> io::Result<()> {
-    match family {
-        1 => plain::report(rt, t),
-        2 => capped::report(rt, t),
-        3 => named(rt, b"desks\n", t),
-        4 => named(rt, b"several\n", t),
-        5 => named(rt, b"engine\n", t),
-        6 => questions::report(rt, t),
-        7 => reformulations::report(rt, t),
-        _ => Ok(()),
-    }
-}
-
-fn named(rt: &impl Print, family: &[u8], t: Tally) -> io::Result<()> {
-    print::text(rt, family)?;
-    tally::report(rt, b"calls", t)
 }
