@@ -1,5 +1,5 @@
 -- A number of 64 bits holds each answer of the calls of single-file maps; and what these leave, as the exported ones tell it. Assumes nothing.
-use Rattle.std.specs.Prelude.{ℕ, ◌≤◌, ◌<◌, List, ◌≡◌}
+use Rattle.std.specs.Prelude.{ℕ, ◌≤◌, ◌<◌, List, ◌≡◌, Result, Ok, Err}
 use Rattle.std.proofs.Common.{arith}
 use Rattle.definitions.specs.Answers.{◌then◌}
 use Rattle.definitions.specs.Calls.{resume, start}
@@ -11,8 +11,6 @@ use Rattle.calls.proofs.CodeLaws as answers
 use Rattle.calls.specs.Codes.{code}
 use Rattle.calls.specs.Paper.{value}
 use Rattle.single_listing.specs.Listed.{listed_of, number_of, values_of}
-use Rattle.single_listing.specs.declared.ListingAnswer.{ListingAnswer}
-use Rattle.single_listing.specs.declared.ListingAnswer.TheVariants.{Written, Refused}
 use Rattle.single_listing.specs.declared.ListingRefusal.{ListingRefusal}
 use Rattle.single_listing.specs.declared.ListingRefusal.TheVariants.{Call, NotMinimal, OutputLength}
 use Rattle.single_spec.specs.Calls.{single_resume, single_resume_checks, single_start, single_start_checks}
@@ -52,13 +50,13 @@ number_small (Call why) = answers.number_small why
 number_small (NotMinimal row) = omega arith
 number_small OutputLength = omega arith
 
-pub refused_small : {r : ListingAnswer} {why : ListingRefusal} {n : ℕ} → r ≡ Refused why → n ≡ number_of why → n < 256
+pub refused_small : {r : Result ℕ ListingRefusal} {why : ListingRefusal} {n : ℕ} → r ≡ Err why → n ≡ number_of why → n < 256
 refused_small {why = why} h e = rw e (number_small why)
 
-module _ {r : ListingAnswer} {out : List ℕ} {l : Listing} (e : listed_of r out ≡ l) {a : ℕ} where
-  pub told_written : {n : ℕ} → r ≡ Written n → a ≡ code 104 n → (a, out) ≡ listing_told l
+module _ {r : Result ℕ ListingRefusal} {out : List ℕ} {l : Listing} (e : listed_of r out ≡ l) {a : ℕ} where
+  pub told_written : {n : ℕ} → r ≡ Ok n → a ≡ code 104 n → (a, out) ≡ listing_told l
   told_written h d = rw (← e, h, d)
 
-  pub told_refused : {why : ListingRefusal} {n v : ℕ} → r ≡ Refused why → n ≡ number_of why → v ≡ value (values_of why) → a ≡ code n v
+  pub told_refused : {why : ListingRefusal} {n v : ℕ} → r ≡ Err why → n ≡ number_of why → v ≡ value (values_of why) → a ≡ code n v
       → (a, out) ≡ listing_told l
   told_refused h x y d = rw (← e, h, d, x, y)

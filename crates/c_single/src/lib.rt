@@ -8,7 +8,6 @@ ghost use Rattle.c_single.specs.SingleFile.{single_start_words, single_resume_wo
 
 use c_record::{tell, words};
 use calls::Solutions;
-use single_listing::ListingAnswer;
 
 // The plain start.
 pub fn start(
@@ -53,8 +52,8 @@ pub fn listed(p: usize, q: usize, coefs: &[i32], list: &[u32], found: usize, out
     ensures { (result, out.new) ≡ listing_told (listing_call (input_of p q coefs.now) list.now found out.old) }
 {
     match single_listing::listed(p, q, coefs, list, Solutions(found), out) {
-        ListingAnswer::Written(n) => calls::codes::coded(104, n),
-        ListingAnswer::Refused(why) => {
+        Ok(n) => calls::codes::coded(104, n),
+        Err(why) => {
             calls::codes::coded(
                 single_listing::number_of(why),
                 single_listing::value_of(why),
