@@ -165,7 +165,8 @@ runs_same (suc n) words runs runs' answers answers' h g =
     rw (runs_same n words runs runs' answers answers' (λ i l. h i (omega arith)) (λ i l. g i (omega arith)), h n (omega arith), g n (omega arith))
 
 module _ (x : form.Dispatched) (d : Dispatched) {stack list : List ℕ} (r : Returns x d stack list) (words : List ℕ) where
-  told_is : (v : Result (Unit {0}) Fault) → verdict_of v ≡ x.check → {a : ℕ} {left : List ℕ} → (a, left) ≡ told_by v words d → (a, (stack, (list, left))) ≡ told words x
+  told_is : (v : Result (Unit {0}) Fault) → verdict_of v ≡ x.check → {a : ℕ} {left : List ℕ} → (a, left) ≡ told_by v words d → (a, (stack, (list, left)))
+      ≡ told words x
   told_is (Err why) e {a} {left} q =
       let ea : a ≡ fault_of why = ap (λ (p : ℕ × List ℕ). p.0) q in
       let el : left ≡ words = ap (λ (p : ℕ × List ℕ). p.1) q in

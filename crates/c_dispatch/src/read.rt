@@ -1,5 +1,5 @@
 // What the words hold.
-ghost use Rattle.std.specs.Prelude.{◌≡◌, ◌<◌, ◌≤◌, get_or};
+ghost use Rattle.std.specs.Prelude.{◌≡◌, ◌≤◌, get_or};
 ghost use Rattle.dispatch.specs.Filling.{Filled};
 ghost use Rattle.dispatch.specs.Form.{no_record, no_share};
 ghost use Rattle.c_dispatch.specs.Words.{last_in, record_in, run_at, share_at, share_in};

@@ -1,6 +1,7 @@
 -- The engine's calls on a record of words, as the code goes about them; a call that is refused leaves the words; and other words are refused with 6, after what
 -- is checked before it. Assumes nothing.
-use Rattle.std.specs.Prelude.{Result as Checking, Ok, Err, ℕ, zero, suc, ◌+◌, ◌*◌, ◌^◌, ◌<◌, ◌≤◌, Bool, true, not, ◌&&◌, cond, ◌≢◌, ◌≡◌, T, eqb, ltb, ℤ, length, get_or, set}
+use Rattle.std.specs.Prelude.{Result as Checking, Ok, Err, ℕ, zero, suc, ◌+◌, ◌*◌, ◌^◌, ◌<◌, ◌≤◌, Bool, true, not, ◌&&◌, cond, ◌≢◌, ◌≡◌, T, eqb, ltb, ℤ, length}
+use Rattle.std.specs.Prelude.{get_or, set}
 use Rattle.std.proofs.Math.Bool.{false}
 use mathlib.Core.List.{List, [], ◌∷◌}
 use Rattle.std.proofs.Math.Path.{refl, ap}

@@ -72,23 +72,24 @@ module _ (q n : ℕ) (t : List ℕ) where
   outcome_fits k values e = due_fits (equation_rules q n t) k values reader_small ((equation_renders q n t).refuses k values (ap verdict e))
 
 -- what a call answered and left, as it is told
-module _ (q : ℕ) (t : List ℕ) (row : List ℤ) (r : Result ℤ EquationRefusal) (after : List ℤ) (e : answer_of r after ≡ answered (outcome q (length row) t) row) where
-  pub read_refusal_fits : {why : EquationRefusal} → r ≡ Err why → refusal_code (number_of why) (values_of why) < 2 ^ 64
-  read_refusal_fits {why} g =
-      fitting_code (number_of why) (values_of why)
-      (outcome_fits q (length row) t (number_of why) (values_of why) (answered_refused (outcome q (length row) t) row (rw g at e)))
+module _ (q : ℕ) (t : List ℕ) (row : List ℤ) (r : Result ℤ EquationRefusal) (after : List ℤ) (e : answer_of r after ≡ answered (outcome q (length row) t) row)
+  where
+    pub read_refusal_fits : {why : EquationRefusal} → r ≡ Err why → refusal_code (number_of why) (values_of why) < 2 ^ 64
+    read_refusal_fits {why} g =
+        fitting_code (number_of why) (values_of why)
+        (outcome_fits q (length row) t (number_of why) (values_of why) (answered_refused (outcome q (length row) t) row (rw g at e)))
 
-  pub read_side_small : {right : ℤ} → r ≡ Ok right → nat_abs right ≤ 10000
-  read_side_small {right} g = side_small q (length row) t row {right = right} {left = after} (rw g at e)
+    pub read_side_small : {right : ℤ} → r ≡ Ok right → nat_abs right ≤ 10000
+    read_side_small {right} g = side_small q (length row) t row {right = right} {left = after} (rw g at e)
 
-  pub read_refused_told : (side : List ℤ) {why : EquationRefusal} {a : ℕ} → r ≡ Err why → a ≡ refusal_code (number_of why) (values_of why)
-      → (a, (after, side)) ≡ read_told (answered (outcome q (length row) t) row) side
-  read_refused_told side g d = rw (← e, g, d)
+    pub read_refused_told : (side : List ℤ) {why : EquationRefusal} {a : ℕ} → r ≡ Err why → a ≡ refusal_code (number_of why) (values_of why)
+        → (a, (after, side)) ≡ read_told (answered (outcome q (length row) t) row) side
+    read_refused_told side g d = rw (← e, g, d)
 
-  -- a right side that was read fits 32 bits
-  pub read_told_lem : (side : List ℤ) {right : ℤ} → r ≡ Ok right
-      → (130, (after, set side 0 (to_z w32 (of_z w32 right)))) ≡ read_told (answered (outcome q (length row) t) row) side
-  read_told_lem side {right} g = rw (to_z-of_z {w = w32} {z = right} (sfits_nat_abs (omega (arith, read_side_small g))), ← e, g)
+    -- a right side that was read fits 32 bits
+    pub read_told_lem : (side : List ℤ) {right : ℤ} → r ≡ Ok right
+        → (130, (after, set side 0 (to_z w32 (of_z w32 right)))) ≡ read_told (answered (outcome q (length row) t) row) side
+    read_told_lem side {right} g = rw (to_z-of_z {w = w32} {z = right} (sfits_nat_abs (omega (arith, read_side_small g))), ← e, g)
 
 -- ---- the writer
 

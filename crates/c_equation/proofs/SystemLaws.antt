@@ -89,7 +89,8 @@ handed_few (form.refused k ws) coefs rights f e = absurd (let z : ◌≡◌ {A =
 
 -- ---- what a call answered and left, as it is told
 
-module _ (q : ℕ) (t : List ℕ) (coefs rights : List ℤ) (r : Result ℕ SystemRefusal) (after sides : List ℤ) (e : answer_of r after sides ≡ read_system q t coefs rights) where
+module _ (q : ℕ) (t : List ℕ) (coefs rights : List ℤ) (r : Result ℕ SystemRefusal) (after sides : List ℤ)
+    (e : answer_of r after sides ≡ read_system q t coefs rights) where
   pub system_refusal_fits : {why : SystemRefusal} → r ≡ Err why → refusal_code (number_of why) (values_of why) < 2 ^ 64
   unfolding read_system
   system_refusal_fits {why} g =

@@ -33,7 +33,8 @@ unfolding verdict answered
 refused_verdict (reading.accepted p q coefs) table after why e = absurd (let z : ◌≡◌ {A = ℕ} 0 1 = cc (ap (λ o. o.answer) e) in omega arith)
 refused_verdict (reading.refused n values) table after why e = cc (ap (λ o. o.answer) e)
 
-pub told_fits : (text : List ℕ) (table after : List ℤ) {r : Result Map TextRefusal} → outcome r after ≡ answered (read_map text) table → {why : TextRefusal} → r ≡ Err why
+pub told_fits : (text : List ℕ) (table after : List ℤ) {r : Result Map TextRefusal} → outcome r after ≡ answered (read_map text) table → {why : TextRefusal} → r
+    ≡ Err why
     → refusal_code (number_of why) (values_of why) < 2 ^ 64
 told_fits text table after e {why} g =
     refusal_fits text _ _ ((text_renders text).refuses (number_of why) (values_of why) (refused_verdict (read_map text) table after why (rw g at e)))

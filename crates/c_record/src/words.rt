@@ -1,5 +1,5 @@
 // The run record as words of 64 bits: specs/Words.antt says which.
-ghost use Rattle.std.specs.Prelude.{◌≡◌, ltb, length, set};
+ghost use Rattle.std.specs.Prelude.{◌≡◌, ltb};
 ghost use Rattle.calls.specs.Paper.{run_of};
 ghost use Rattle.c_record.specs.Words.{height_if, kind_at, record_in, words_left};
 

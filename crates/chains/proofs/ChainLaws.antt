@@ -39,7 +39,8 @@ any_last f x = grind arith
 any_over_range : (n : ℕ) (f : ℕ → Bool) → list_any f (range_with_len 0 n) ≡ any_to n f
 unfolding any_to
 any_over_range zero f = refl
-any_over_range (suc n) f = ap (list_any f) (range_last 0 n) ∙ list_any-append f (range_with_len 0 n) ((0 + n) ∷ []) ∙ rw (any_over_range n f, any_last f (0 + n), zero-add n) refl
+any_over_range (suc n) f =
+    ap (list_any f) (range_last 0 n) ∙ list_any-append f (range_with_len 0 n) ((0 + n) ∷ []) ∙ rw (any_over_range n f, any_last f (0 + n), zero-add n) refl
 
 -- ---- what `all` and `any` leave known, as std's clause `ran` has it
 

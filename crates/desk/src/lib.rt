@@ -1,7 +1,7 @@
 // The second walk's calls: the start, and the continuing call. Each takes the run record by value and returns what it leaves.
 #![tactic(auto)]
 
-ghost use Rattle.std.specs.Prelude.{◌≡◌, ◌+◌, ◌*◌, ◌≤◌, ◌<◌, length};
+ghost use Rattle.std.specs.Prelude.{◌≡◌, ◌+◌, ◌*◌, ◌≤◌, length};
 ghost use Rattle.desk_spec.specs.Desks.{desk_begin, desk_of, desk_resume};
 ghost use Rattle.calls.specs.Paper.{outcome_of, state_of};
 ghost use Rattle.desk.specs.Starting.{start_to};

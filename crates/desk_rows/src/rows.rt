@@ -1,5 +1,5 @@
 // Rows of the stack table.
-ghost use Rattle.std.specs.Prelude.{◌≡◌, ◌+◌, ◌*◌, ◌≤◌, ◌<◌, ltb, length};
+ghost use Rattle.std.specs.Prelude.{◌≡◌, ◌+◌, ◌*◌, ◌≤◌, ltb, length};
 ghost use Rattle.linear.specs.Tests.{any_to};
 ghost use Rattle.linear.specs.Tuples.{total};
 ghost use Rattle.definitions.specs.System.{most_component};

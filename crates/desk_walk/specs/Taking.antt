@@ -87,7 +87,8 @@ pub record Standing (p q : ℕ) (coefs : List ℤ) (generators : List ℕ) (imag
 
 -- what a step came to
 abbrev pub Came : Desk → State → List ℕ → List ℕ → Result DeskStepped Refusal → Type 0
-Came d s stack list (Ok (Listed k)) = (desk_search_checks d s ≡ go) × (moved_to s stack list (desk_level s) k (s.run.steps + 1) (desk_deeper d s) ≡ desk_step d s)
+Came d s stack list (Ok (Listed k)) =
+    (desk_search_checks d s ≡ go) × (moved_to s stack list (desk_level s) k (s.run.steps + 1) (desk_deeper d s) ≡ desk_step d s)
 Came d s stack list (Ok (Grown h)) = (desk_search_checks d s ≡ go) × (moved_to s stack list h s.run.found (s.run.steps + 1) (desk_deeper d s) ≡ desk_step d s)
 Came d s stack list (Err why) = (desk_search_checks d s ≡ refuse (number_of why) (values_of why)) × (stack ≡ s.stack) × (list ≡ s.list)
 

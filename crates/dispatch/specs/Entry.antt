@@ -57,7 +57,8 @@ unfolding checks_for dispatch_checks
 checks_are count shares coefs quantum stack list records last = refl
 
 module _ (count : ℕ) (shares : List Share) (coefs : List ℤ) (quantum : ℕ) (stack list : List ℕ) (records : List Record) (last turns : ℕ) where
-  pub returns_refused : {why : Fault} {v : Result (Unit {0}) Fault} → verdict_of v ≡ checks_for count shares quantum last (length stack) (length list) → v ≡ Err why
+  pub returns_refused : {why : Fault} {v : Result (Unit {0}) Fault} → verdict_of v ≡ checks_for count shares quantum last (length stack) (length list) → v
+      ≡ Err why
       → (d : Dispatched) → Refused why records last d
       → Returns (dispatch turns (schedule_for count shares coefs quantum) (handed stack list records last)) d stack list
   unfolding dispatch
@@ -95,50 +96,52 @@ module _ (count : ℕ) (shares : List Share) (coefs : List ℤ) (quantum : ℕ) 
   unfolding opened
   opened_handed {p} e f = ap (λ (x : ℕ → form.Progress). record { stack = stack; list = list; progress = x; last = last }) (fun_ext (unserved_at e f))
 
-  module _ {v : Result (Unit {0}) Fault} (e : verdict_of v ≡ checks_for count shares quantum last (length stack) (length list)) {x : Unit {0}} (q : v ≡ Ok x) where
-    goes : dispatch_checks (schedule_for count shares coefs quantum) (handed stack list records last) ≡ paper.go
-    goes = sym (sym (ap verdict_of q) ∙ e ∙ checks_are count shares coefs quantum stack list records last)
+  module _ {v : Result (Unit {0}) Fault} (e : verdict_of v ≡ checks_for count shares quantum last (length stack) (length list)) {x : Unit {0}} (q : v ≡ Ok x)
+    where
+      goes : dispatch_checks (schedule_for count shares coefs quantum) (handed stack list records last) ≡ paper.go
+      goes = sym (sym (ap verdict_of q) ∙ e ∙ checks_are count shares coefs quantum stack list records last)
 
-    pub ready : Ready count shares (length stack) (length list)
-    ready =
-        let a = accepted (schedule_for count shares coefs quantum) (handed stack list records last) goes in
-        record { some_run = a.some_run; few = a.few_runs; stacks = λ i l. a.laid.stacks.fit i l; lists = λ i l. a.laid.lists.fit i l }
+      pub ready : Ready count shares (length stack) (length list)
+      ready =
+          let a = accepted (schedule_for count shares coefs quantum) (handed stack list records last) goes in
+          record { some_run = a.some_run; few = a.few_runs; stacks = λ i l. a.laid.stacks.fit i l; lists = λ i l. a.laid.lists.fit i l }
 
-    module _ {p : List Progress} (long : length records ≡ 8) (f : Filled 8 (λ i. unserved_of (get_or records i no_record)) no_progress p 8)
-        {stack' list' : List ℕ} (progress' : List Progress) {last' : ℕ}
-        (h : round_for stack' list' progress' last' ≡ after_turns turns (schedule_for count shares coefs quantum) (round_for stack list p last)) where
-      turned_to : after_turns turns (schedule_for count shares coefs quantum) (opened (handed stack list records last)) ≡ round_for stack' list' progress' last'
-      turned_to = ap (after_turns turns (schedule_for count shares coefs quantum)) (opened_handed long f) ∙ sym h
+      module _ {p : List Progress} (long : length records ≡ 8) (f : Filled 8 (λ i. unserved_of (get_or records i no_record)) no_progress p 8)
+          {stack' list' : List ℕ} (progress' : List Progress) {last' : ℕ}
+          (h : round_for stack' list' progress' last' ≡ after_turns turns (schedule_for count shares coefs quantum) (round_for stack list p last)) where
+        turned_to : after_turns turns (schedule_for count shares coefs quantum) (opened (handed stack list records last))
+            ≡ round_for stack' list' progress' last'
+        turned_to = ap (after_turns turns (schedule_for count shares coefs quantum)) (opened_handed long f) ∙ sym h
 
-      rise : (i : ℕ) → Rises (get_or records i no_record).steps.0 (get_or progress' i no_progress).run.steps.0
-      unfolding opened
-      rise i = rw turned_to at (turns_rise turns (schedule_for count shares coefs quantum) (opened (handed stack list records last)) i)
+        rise : (i : ℕ) → Rises (get_or records i no_record).steps.0 (get_or progress' i no_progress).run.steps.0
+        unfolding opened
+        rise i = rw turned_to at (turns_rise turns (schedule_for count shares coefs quantum) (opened (handed stack list records last)) i)
 
-      -- a place past the runs has no turn
-      past : (i : ℕ) → count ≤ i → run_of (get_or records i no_record) ≡ run_of (get_or progress' i no_progress).run
-      unfolding opened
-      past i l =
-          let t = turns_past turns (schedule_for count shares coefs quantum) (opened (handed stack list records last)) ready.some_run i l in
-          sym (ap (λ (p : form.Progress). p.run) (rw turned_to at t))
+        -- a place past the runs has no turn
+        past : (i : ℕ) → count ≤ i → run_of (get_or records i no_record) ≡ run_of (get_or progress' i no_progress).run
+        unfolding opened
+        past i l =
+            let t = turns_past turns (schedule_for count shares coefs quantum) (opened (handed stack list records last)) ready.some_run i l in
+            sym (ap (λ (p : form.Progress). p.run) (rw turned_to at t))
 
-      pub rising : Rising count records progress'
-      rising = record { rises = λ i l. rise i }
+        pub rising : Rising count records progress'
+        rising = record { rises = λ i l. rise i }
 
-      pub returns_served : {outcomes : List Outcome} {steps : Steps} → Finishing count shares coefs stack' list' records progress' outcomes steps.0 count
-          → Returns (dispatch turns (schedule_for count shares coefs quantum) (handed stack list records last))
-          (record { verdict = Ok tt; outcomes = outcomes; last = last'; steps = steps }) stack' list'
-      unfolding dispatch answer_for own steps_between
-      returns_served g =
-          rw (goes, turned_to)
-          (record {
-            check = refl;
-            answers = λ i l. elim (split i count) [ inl m ↦ rw (lt-ltb i count m) (g.each i m).answer | inr m ↦ rw (le-ltb i count m, g.others i m l) refl ];
-            records = λ i l. elim (split i count) [
-              | inl m ↦ ap run_of (g.each i m).run
-              | inr m ↦ ap (λ (o : Outcome). run_of o.run) (g.others i m l) ∙ past i m
-            ];
-            steps = rw g.sum refl;
-            last = refl;
-            stacks = refl;
-            lists = refl;
-          })
+        pub returns_served : {outcomes : List Outcome} {steps : Steps} → Finishing count shares coefs stack' list' records progress' outcomes steps.0 count
+            → Returns (dispatch turns (schedule_for count shares coefs quantum) (handed stack list records last))
+            (record { verdict = Ok tt; outcomes = outcomes; last = last'; steps = steps }) stack' list'
+        unfolding dispatch answer_for own steps_between
+        returns_served g =
+            rw (goes, turned_to)
+            (record {
+              check = refl;
+              answers = λ i l. elim (split i count) [ inl m ↦ rw (lt-ltb i count m) (g.each i m).answer | inr m ↦ rw (le-ltb i count m, g.others i m l) refl ];
+              records = λ i l. elim (split i count) [
+                | inl m ↦ ap run_of (g.each i m).run
+                | inr m ↦ ap (λ (o : Outcome). run_of o.run) (g.others i m l) ∙ past i m
+              ];
+              steps = rw g.sum refl;
+              last = refl;
+              stacks = refl;
+              lists = refl;
+            })

@@ -11,7 +11,7 @@ use Rattle.definitions.specs.Tables.{State}
 use Rattle.calls.specs.Paper.{outcome_of}
 use Rattle.calls.specs.declared.Outcome.{Outcome}
 use Rattle.dispatch_spec.specs.Dispatch as form
-use Rattle.dispatch_spec.specs.Dispatch.{Schedule, put, own, next, next_after, leave_turn, serve_run, serve, after_turns}
+use Rattle.dispatch_spec.specs.Dispatch.{Schedule, put, own, next, leave_turn, serve_run, serve, after_turns}
 use Rattle.dispatch.specs.declared.types.Share.{Share}
 use Rattle.dispatch.specs.declared.types.Progress.{Progress}
 use Rattle.dispatch.specs.Form.{no_share, no_progress, schedule_for, input_for, progress_of, round_for, turned, own_state, placed}

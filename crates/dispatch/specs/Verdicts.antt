@@ -14,7 +14,8 @@ use Rattle.dispatch.specs.declared.types.Share.{Share}
 use Rattle.dispatch.specs.Form.{no_part, no_share, part_at, part_for, parts_at, checks_for}
 
 -- the parts of one table, taken of the shares
-pub parts_taken : {F : Type 0} {g : Mut F (Share × Unit {0}) Part} {f : F} {shares : List Share} {all : List Part} (choose : Share → Part) → choose no_share ≡ no_part
+pub parts_taken : {F : Type 0} {g : Mut F (Share × Unit {0}) Part} {f : F} {shares : List Share} {all : List Part} (choose : Share → Part) → choose no_share
+    ≡ no_part
     → length shares ≡ 8 → IsMapOf g f shares all 8 → ((p : F) (x : Share) (y : Part) (q : F) → Called g p (x, tt) y q → y ≡ choose x)
     → parts_at all ≡ (λ i. part_for (choose (get_or shares i no_share)))
 parts_taken {shares} {all} choose none long r gives =

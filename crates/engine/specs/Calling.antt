@@ -6,7 +6,6 @@ use Rattle.std.proofs.lemmas.Bool.{not-false}
 use Rattle.std.proofs.Math.Dec.{ltb}
 use Rattle.linear.proofs.Cases.{order}
 use Rattle.definitions.specs.Answers as paper
-use Rattle.definitions.specs.Answers.{◌then◌}
 use Rattle.definitions.specs.System.{is_zero}
 use Rattle.laws.proofs.AnswerLaws.{refuse_if_go, then_go}
 use Rattle.laws.proofs.TableLaws.{row_fits}
@@ -85,7 +84,8 @@ module _ (p q : ℕ) (coefs equations : List ℤ) (basis table : List ℕ) (l : 
         few = omega (arith, mul-le-mul {n₁ = p} {m₁ = q} {n₂ = 32} {m₂ = 32} s.size.equations s.size.unknowns);
       }
 
-  pub start_passed : {nothing : Unit {0}} → made ≡ Ok nothing → {o : Outcome} {equations' : List ℤ} {basis' : List ℕ} → Begun p q coefs equations basis o equations' basis'
+  pub start_passed : {nothing : Unit {0}} → made ≡ Ok nothing → {o : Outcome} {equations' : List ℤ} {basis' : List ℕ}
+      → Begun p q coefs equations basis o equations' basis'
       → outcome_of o equations' basis' table ≡ spec.start p q coefs (spec.basis_room q (lengths_of basis table l)) (work_of equations basis table r)
   unfolding spec.start_under
   start_passed g b = call_passed (rw m at (e ∙ start_checks_lem p q coefs most (work_of equations basis table r))) equations basis table r _ g
@@ -93,7 +93,8 @@ module _ (p q : ℕ) (coefs equations : List ℤ) (basis table : List ℕ) (l : 
 
 -- ---- the start from a list
 
-module _ (p q : ℕ) (coefs : List ℤ) (n : ℕ) (rows : List ℕ) (equations : List ℤ) (basis table : List ℕ) (l : Beside) (r : Record) {made : Result (Unit {0}) Refusal} {most : ℕ}
+module _ (p q : ℕ) (coefs : List ℤ) (n : ℕ) (rows : List ℕ) (equations : List ℤ) (basis table : List ℕ) (l : Beside) (r : Record)
+    {made : Result (Unit {0}) Refusal} {most : ℕ}
     (m : most ≡ spec.basis_room q (lengths_of basis table l)) (e : check_of made ≡ start_from_checks_by p q coefs n rows most (length equations)) where
   pub start_from_refused : {why : Refusal} → made ≡ Err why
       → outcome_of (refused_with why r) equations basis table
@@ -126,7 +127,8 @@ module _ (p q : ℕ) (coefs : List ℤ) (n : ℕ) (rows : List ℕ) (equations :
 
 -- ---- the start for right sides and lower bounds
 
-module _ (p q : ℕ) (coefs rights : List ℤ) (lower : List ℕ) (equations : List ℤ) (basis table : List ℕ) (l : Beside) (r : Record) {made : Result (Unit {0}) Refusal}
+module _ (p q : ℕ) (coefs rights : List ℤ) (lower : List ℕ) (equations : List ℤ) (basis table : List ℕ) (l : Beside) (r : Record)
+    {made : Result (Unit {0}) Refusal}
     (e : check_of made ≡ sides_checks_by p q coefs rights lower (length equations) (length basis) l.sizes) where
   pub sides_refused : {why : Refusal} → made ≡ Err why
       → outcome_of (refused_with why r) equations basis table
@@ -187,7 +189,8 @@ module _ (p q : ℕ) (equations : List ℤ) (basis table : List ℕ) (l : Beside
   pub lent_roomed : Roomed q most room (length basis) (length table)
   lent_roomed = rw (m, n) (roomed q basis table l)
 
-  module _ (r s : ℕ) (u t : ℤ) {made : Result (Unit {0}) Refusal} (e : check_of made ≡ spec.combine_checks p q most room r s u t (work_of equations basis table run)) where
+  module _ (r s : ℕ) (u t : ℤ) {made : Result (Unit {0}) Refusal}
+      (e : check_of made ≡ spec.combine_checks p q most room r s u t (work_of equations basis table run)) where
     pub combine_refused : {why : Refusal} → made ≡ Err why
         → outcome_of (refused_with why run) equations basis table
         ≡ spec.combine p q (spec.basis_room q (lengths_of basis table l)) (spec.stage_room q (lengths_of basis table l)) r s u t

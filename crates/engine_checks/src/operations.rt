@@ -1,8 +1,5 @@
 // Whether a row operation may be made: u times equation r and t times equation s in the place of equation r.
-ghost use Rattle.std.specs.Prelude.{not, ◌||◌, ◌≡◌, ◌+◌, ◌*◌, ◌≤◌, eqb, nat_abs, ◌+ℤ◌, ◌*ℤ◌};
-ghost use Rattle.std.specs.Int.{w64};
-ghost use Rattle.std.proofs.Common.{SFits};
-ghost use Rattle.definitions.specs.System.{is_zero};
+ghost use Rattle.std.specs.Prelude.{◌||◌, ◌≡◌, ◌+◌, ◌*◌, ◌≤◌, nat_abs, ◌+ℤ◌, ◌*ℤ◌};
 ghost use Rattle.engine_spec.specs.Beside.{SmallEquation, coefficient_limit};
 ghost use Rattle.engine_checks.specs.Operating.{combines_small, operation_by};
 

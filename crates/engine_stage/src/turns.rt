@@ -1,5 +1,5 @@
 // One turn of a stage: a row of the basis, a pair of rows, the next degree, or the end. The rows' values, words, degrees, marks and mothers stand beside them.
-ghost use Rattle.std.specs.Prelude.{◌≡◌, ◌+◌, ◌*◌, ◌≤◌, ◌<◌, length, eqb, false};
+ghost use Rattle.std.specs.Prelude.{◌≡◌, ◌+◌, ◌*◌, ◌≤◌, length, eqb, false};
 ghost use Rattle.definitions.specs.Tables.{at};
 ghost use Rattle.engine_spec.specs.Beside.{equation_at};
 ghost use Rattle.engine_spec.specs.Search.{first_in};

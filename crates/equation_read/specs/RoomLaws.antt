@@ -1,5 +1,6 @@
 -- What is left of a text, and the room for it. Assumes nothing.
-use Rattle.std.specs.Prelude.{ℕ, zero, suc, ◌+◌, ◌*◌, ◌-◌, ◌≤◌, ◌<◌, List, [], ◌∷◌, ◌++◌, ◌≡◌, ℤ, pos, nat_abs, ◌+ℤ◌, Option, Some, None, length, get_or, drop, set}
+use Rattle.std.specs.Prelude.{ℕ, zero, suc, ◌+◌, ◌*◌, ◌-◌, ◌≤◌, ◌<◌, List, [], ◌∷◌, ◌++◌, ◌≡◌, ℤ, pos, nat_abs, ◌+ℤ◌, Option, Some, None, length, get_or, drop}
+use Rattle.std.specs.Prelude.{set}
 use mathlib.Core.Bool.{true, false}
 use Rattle.std.proofs.Common.{sym, ap, arith, length-drop, length-append}
 use Rattle.linear.proofs.Integers.{nat_abs_+ℤ, nat_abs_negℤ}

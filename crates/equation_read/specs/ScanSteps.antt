@@ -9,7 +9,7 @@ use Rattle.texts.specs.Reading.{is_digit, digit}
 use Rattle.texts.proofs.NumberLaws.{byte_at}
 use Rattle.equation_spec.specs.Scan.{Phase, nothing, sum_due, term_due, factor_due, index_due, in_number, after_number, in_index, after_bracket, after_term}
 use Rattle.equation_spec.specs.Scan.{Step, to}
-use Rattle.equation_spec.specs.Scan.{fault, onward, factor_begins, term_begins, sum_begins, after_digits, after_factor, indexed, step, term_ends, final}
+use Rattle.equation_spec.specs.Scan.{fault, onward, factor_begins, term_begins, sum_begins, after_digits, after_factor, step, final}
 use Rattle.equation_spec.specs.Scan.{place_from}
 
 -- ---- the loop: i bytes are passed

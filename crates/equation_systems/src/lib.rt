@@ -33,8 +33,8 @@ impl From<BadLine> for SystemRefusal {
     }
 }
 
-// Reads the system that `text` writes for `q` unknowns, one equation a line, and answers how many there are. Its coefficients go to the beginning of `coefs`, row by row, and its right sides
-// to the beginning of `rights`.
+// Reads the system that `text` writes for `q` unknowns, one equation a line, and answers how many there are. Its coefficients go to the beginning of `coefs`,
+// row by row, and its right sides to the beginning of `rights`.
 pub fn read_system(
     text: &[u8],
     q: usize,

@@ -46,12 +46,14 @@ module _ (m : System) (found : ℕ) (row : ℕ → ℕ → ℕ) (x : ℕ → ℕ
 
 -- ---- refused or not
 
-module _ (s : Sizes) (i : Input) (list : List ℕ) (found : ℕ) (t : List ℕ) {c : Result (Unit {0}) Refusal} (e : check_of c ≡ paper.reason_checks s i list found t) where
+module _ (s : Sizes) (i : Input) (list : List ℕ) (found : ℕ) (t : List ℕ) {c : Result (Unit {0}) Refusal}
+    (e : check_of c ≡ paper.reason_checks s i list found t) where
   pub refused_at : {why : Refusal} → c ≡ Err why → paper.refused (number_of why) (values_of why) ≡ paper.reason_within s i list found t
   unfolding paper.reason_within paper.unless_refused
   refused_at g = rw (← e, g)
 
-  pub passed_at : {x : Unit {0}} → c ≡ Ok x → {r : paper.Reason} → r ≡ paper.first_true (map_of i) found (at list i.q) (λ j. get_or t j 0) → r ≡ paper.reason_within s i list
+  pub passed_at : {x : Unit {0}} → c ≡ Ok x → {r : paper.Reason} → r ≡ paper.first_true (map_of i) found (at list i.q) (λ j. get_or t j 0) → r
+      ≡ paper.reason_within s i list
       found t
   unfolding paper.reason_within paper.unless_refused
   passed_at g h = rw (← e, g) h

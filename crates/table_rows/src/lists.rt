@@ -14,8 +14,8 @@ pub fn covered(list: &[u32], found: usize, w: usize, t: &[u32]) -> bool
     highest(list, found, w, t).is_some()
 }
 
-// The highest place, from 1, of such a row. The newest rows come first: it is they that most often are at or below `t`. Most rows fail at their first component,
-// so that of `t` is kept at hand: the compiler then takes the first turn of the inner loop out of it.
+// The highest place, from 1, of such a row. The newest rows come first: it is they that most often are at or below `t`. Most rows fail at their first
+// component, so that of `t` is kept at hand: the compiler then takes the first turn of the inner loop out of it.
 pub fn highest(list: &[u32], found: usize, w: usize, t: &[u32]) -> Option<usize>
     requires { (0 < w) × (w ≤ length t.now) × (found * w ≤ length list.now) }
     ensures { place_of result ≡ paper.highest w found (at list.now w) (tuple t.now) }

@@ -1,5 +1,6 @@
 -- The first place at which a test holds, as `position` finds it in a slice and over the places below n, and the refusal of it. Assumes nothing.
-use Rattle.std.proofs.Common.{◌≡◌, refl, ◌∙◌, sym, ℕ, zero, suc, ◌+◌, ◌-◌, ◌<◌, Bool, true, false, List, [], ◌∷◌, length, get_or, Option, Some, None, arith, add-one}
+use Rattle.std.proofs.Common.{◌≡◌, refl, ◌∙◌, sym, ℕ, zero, suc, ◌+◌, ◌<◌, Bool, true, false, List, [], ◌∷◌, length, get_or, Option, Some, None, arith}
+use Rattle.std.proofs.Common.{add-one}
 use Rattle.std.proofs.Math.Nat.{zero-add}
 use Rattle.std.proofs.iter.Yields.{fronts, nat_range_steps}
 use Rattle.std.proofs.lemmas.Iterator.{YieldsList-from_range, YieldsList-from_slice, IsFirst-from_position}
@@ -36,7 +37,8 @@ by_places : {B : Type 0} (f : B → Bool) (d : B) (xs : List B) (r : Option ℕ)
 by_places f d xs None h = λ i l. h i d (omega arith) l
 by_places f d xs (Some i) h = (h.0, h.1 d, λ k l. h.2 k d (omega arith) l)
 
-pub first_in_slice : {A F : Type 0} {g : Mut F (Bor A × Unit {0}) Bool} {s : Iter A} {xs : List A} (f : A → Bool) (d : A) {u : Iter A} {callee : F} {r : Option ℕ}
+pub first_in_slice : {A F : Type 0} {g : Mut F (Bor A × Unit {0}) Bool} {s : Iter A} {xs : List A} (f : A → Bool) (d : A) {u : Iter A} {callee : F}
+    {r : Option ℕ}
     → PositionRan fronts g s u callee r → iter_rest s ≡ xs → Answers g (λ y. y.now) callee f → First (length xs) (λ i. f (get_or xs i d)) r
 first_in_slice {xs} f d {u} {callee} {r} ran at each =
     by_places f d xs r

@@ -22,13 +22,7 @@ pub fn agrees(kind: u8, l: &Line) -> bool {
     let mut stack = l.stack;
     let mut list = l.list;
     let mut second = l.second;
-    let o = made(
-        kind,
-        l,
-        stack.lend(),
-        list.lend(),
-        second.lend(),
-    );
+    let o = made(kind, l, stack.lend(), list.lend(), second.lend());
     answered::answers(l, o.answer)
         && records(l, o.run)
         && stack.agrees()

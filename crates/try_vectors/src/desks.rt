@@ -6,17 +6,8 @@ pub fn agrees(kind: u8, l: &Line) -> bool {
     let mut stack = l.stack;
     let mut list = l.list;
     let mut record = l.record;
-    let answer = made(
-        kind,
-        l,
-        stack.lend(),
-        list.lend(),
-        record.lend(),
-    );
-    answer == l.answered[0]
-        && stack.agrees()
-        && list.agrees()
-        && record.agrees()
+    let answer = made(kind, l, stack.lend(), list.lend(), record.lend());
+    answer == l.answered[0] && stack.agrees() && list.agrees() && record.agrees()
 }
 
 // p, q, and of a continuing call a budget.

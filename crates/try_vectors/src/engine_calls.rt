@@ -20,11 +20,7 @@ pub fn agrees(kind: u8, l: &Line) -> bool {
         b's' | b'f' | b'w' => (started(kind, l, e, b, w), true),
         _ => made(kind, l, e, b, w),
     };
-    answer == l.answered[0]
-        && kept
-        && equations.agrees()
-        && basis.agrees()
-        && record.agrees()
+    answer == l.answered[0] && kept && equations.agrees() && basis.agrees() && record.agrees()
 }
 
 // A start, plain, from a list or for right sides: of the second the rows, of the third the bound are the line's table.

@@ -33,12 +33,7 @@ pub fn agrees(kind: u8, l: &Line) -> bool {
 fn run(kind: u8, l: &Line) -> bool {
     let mut stack = l.stack;
     let mut list = l.list;
-    let o = made(
-        kind,
-        l,
-        stack.lend(),
-        list.lend(),
-    );
+    let o = made(kind, l, stack.lend(), list.lend());
     answered::answers(l, o.answer)
         && answered::counts(l, 0, o.run)
         && stack.agrees()

@@ -16,8 +16,5 @@ pub fn agrees(l: &Line) -> bool {
         list.lend(),
         round.lend(),
     );
-    number == l.answered[0]
-        && stack.agrees()
-        && list.agrees()
-        && round.agrees()
+    number == l.answered[0] && stack.agrees() && list.agrees() && round.agrees()
 }

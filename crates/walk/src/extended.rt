@@ -1,5 +1,5 @@
 // A system with right sides, extended: the extra unknown comes first, with the negated right sides as its column.
-ghost use Rattle.std.specs.Prelude.{◌≡◌, ◌+◌, ◌*◌, ◌≤◌, ◌<◌, neg_ℤ, nat_abs, length};
+ghost use Rattle.std.specs.Prelude.{◌≡◌, ◌+◌, ◌*◌, ◌≤◌, neg_ℤ, nat_abs, length};
 ghost use Rattle.definitions.specs.System.{coef_limit};
 ghost use Rattle.walk.specs.ExtendLaws.{Sided, Extends, RowWritten};
 

@@ -4,7 +4,7 @@ ghost use Rattle.std.specs.Prelude.{◌≡◌, ◌-◌, ◌≤◌, ◌<◌, leng
 ghost use Rattle.definitions.specs.Calls.{machine_from};
 ghost use Rattle.definitions.specs.Input.{alone, bound_of, input_with};
 ghost use Rattle.definitions.specs.Machine as paper;
-ghost use Rattle.definitions.specs.Tables.{lowered, lower_above, lower_plain, write_row};
+ghost use Rattle.definitions.specs.Tables.{lower_above, lower_plain, write_row};
 ghost use Rattle.laws.specs.LowerLaws.{ValidFrom};
 ghost use Rattle.calls.specs.Paper.{kind_of, outcome_with, state_with};
 ghost use Rattle.walk.specs.Lower.{run_by};

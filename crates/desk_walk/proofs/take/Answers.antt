@@ -33,7 +33,8 @@ pub returns-in_err-listed : goal.returns-in_err-listed
 returns-in_err-listed c =
     let s = (goal.at.returns-in_err-listed c).Start in
     rw (handed_on c.from_residual.ensures)
-    (came_listed (state s) c.requires.standing (sym (solved (state s) c.requires.standing) ∙ sym c.vanishes.ensures ∙ c.if-vanishes.true) c.in_err-listed.ensures)
+    (came_listed (state s) c.requires.standing (sym (solved (state s) c.requires.standing) ∙ sym c.vanishes.ensures ∙ c.if-vanishes.true)
+    c.in_err-listed.ensures)
 
 pub returns-in_err-made : goal.returns-in_err-made
 returns-in_err-made c =

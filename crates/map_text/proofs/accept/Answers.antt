@@ -8,7 +8,8 @@ use Rattle.map_text.proofs.accept.Goals as goal
 
 pub returns-in-Some : goal.returns-in-Some
 returns-in-Some c =
-    one_out_of_range _ _ _ _ (first_refused 7 _ _ (first_in_slice out_of_range (pos 0) c.in-Some.ensures.ran c.iter.ensures.rest (λ x b q k. search (rules, tests))))
+    one_out_of_range _ _ _ _
+    (first_refused 7 _ _ (first_in_slice out_of_range (pos 0) c.in-Some.ensures.ran c.iter.ensures.rest (λ x b q k. search (rules, tests))))
 
 pub returns : goal.returns
 returns c =

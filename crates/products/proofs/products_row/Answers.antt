@@ -17,7 +17,8 @@ overflow_add-sum-in-loop-i-2 c =
     omega (
       arith,
       total_more x c.loop-i.i c.loop-i.invariant.1,
-      total_room x (c.loop-i.i + 1) (omega (arith, c.loop-i-test.true, c.requires.0.unknowns)) (λ i u. c.requires.1.small i (omega (arith, c.loop-i-test.true))),
+      total_room x (c.loop-i.i + 1) (omega (arith, c.loop-i-test.true, c.requires.0.unknowns))
+          (λ i u. c.requires.1.small i (omega (arith, c.loop-i-test.true))),
     )
 
 pub loop-i-preserved : goal.loop-i-preserved

@@ -30,7 +30,7 @@ use Rattle.walking.specs.WalkLaws.{
   turn_refused,
 }
 use Rattle.walking.proofs.walk_system.Goals as goal
-use Rattle.walking.proofs.walk_system.Goals.{After-min-stop, After-take, At-loop-height, In-loop-height, in-Grown, in-Listed, in-ListedSecond}
+use Rattle.walking.proofs.walk_system.Goals.{After-take, At-loop-height, In-loop-height, in-Grown, in-Listed, in-ListedSecond}
 
 -- ---- where things began
 

@@ -13,7 +13,8 @@ use Rattle.checks.proofs.coefficients.check_sides.Goals.{After-any}
 
 tested : (c : After-any) → c.any.result ≡ any_to (length c.args.rights.now) (λ i. out_of_range (get_or c.args.rights.now i (pos 0)))
 tested c =
-    any_in_slice {xs = c.args.rights.now} out_of_range c.any.ensures.ran (cc) (λ x b q k. search (rules, tests)) ∙ any_by_places out_of_range (pos 0) c.args.rights.now
+    any_in_slice {xs = c.args.rights.now} out_of_range c.any.ensures.ran (cc) (λ x b q k. search (rules, tests))
+    ∙ any_by_places out_of_range (pos 0) c.args.rights.now
 
 pub returns-then-any : goal.returns-then-any
 unfolding refuse_with

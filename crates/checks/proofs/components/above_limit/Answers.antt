@@ -8,4 +8,5 @@ use Rattle.checks.proofs.components.above_limit.Goals as goal
 
 pub returns : goal.returns
 returns c =
-    any_in_slice {xs = c.args.t.now} (ltb c.args.limit) c.any.ensures.ran (cc) (λ x b q k. search (rules, tests)) ∙ any_by_places (ltb c.args.limit) 0 c.args.t.now
+    any_in_slice {xs = c.args.t.now} (ltb c.args.limit) c.any.ensures.ran (cc) (λ x b q k. search (rules, tests))
+    ∙ any_by_places (ltb c.args.limit) 0 c.args.t.now

@@ -13,5 +13,6 @@ pub returns : goal.returns
 returns c =
     let all = wide_products c.ranges.u c.ranges.x c.ranges.t c.ranges.y c.from.ensures c.from-2.ensures c.from-3.ensures c.from-4.ensures c.requires.0
     c.requires.1 in
-    rw (to_z-of_z all.0, to_z-of_z all.1.0) (wide_is c.ranges.u c.ranges.x c.ranges.t c.ranges.y c.from.ensures c.from-2.ensures c.from-3.ensures c.from-4.ensures
+    rw (to_z-of_z all.0, to_z-of_z all.1.0)
+    (wide_is c.ranges.u c.ranges.x c.ranges.t c.ranges.y c.from.ensures c.from-2.ensures c.from-3.ensures c.from-4.ensures
     c.requires.0 c.requires.1 refl)

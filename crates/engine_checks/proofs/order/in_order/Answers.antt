@@ -8,8 +8,10 @@ use Rattle.engine_checks.proofs.order.in_order.Goals as goal
 pub are_rows-requires : goal.are_rows-requires
 are_rows-requires c =
     let s = c.args in
-    let held : c.record_in_order.result ≡ true = grind arith in
-    (c.requires.unknowns, (rows_room s.p s.q s.most s.room (work_of s.equations.now s.basis.now s.table.now s.r) c.requires (sym c.record_in_order.ensures ∙ held)).0)
+    let held : c.record_in_order.result ≡ true = grind arith in (
+      c.requires.unknowns,
+      (rows_room s.p s.q s.most s.room (work_of s.equations.now s.basis.now s.table.now s.r) c.requires (sym c.record_in_order.ensures ∙ held)).0,
+    )
 
 pub small_rows-requires : goal.small_rows-requires
 small_rows-requires c =

@@ -7,7 +7,8 @@ use Rattle.engine_reduce.specs.Sums.{integer_at, reducible_by, sum_of}
 use Rattle.engine_reduce.proofs.sums.search.Given as goal
 
 abbrev pub invariant-loop-k : goal.invariant-loop-k
-invariant-loop-k l = (l.i ≤ l.pair.n) × (reducible_by l.pair.q l.i (at l.pair.table.now l.pair.q) (integer_at l.pair.values.now) (sum_of l.pair.q l.pair.table.now l.pair.upper l.pair.lower)
+invariant-loop-k l = (l.i ≤ l.pair.n) ×
+    (reducible_by l.pair.q l.i (at l.pair.table.now l.pair.q) (integer_at l.pair.values.now) (sum_of l.pair.q l.pair.table.now l.pair.upper l.pair.lower)
     l.pair.sum ≡ false)
 
 abbrev pub decreases-loop-k : goal.decreases-loop-k

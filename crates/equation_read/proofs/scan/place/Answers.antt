@@ -6,8 +6,10 @@ use Rattle.equation_read.proofs.scan.place.Goals as goal
 
 pub returns-in_default : goal.returns-in_default
 returns-in_default c =
-    let l = c.loop-i in
-    (sym (at_fault c.args.q c.args.text.now l.i (phase_of l.at.phase) l.at.opened l.at.right c.loop-i-test.true c.in_default.ensures ∙ l.invariant.comes), omega arith)
+    let l = c.loop-i in (
+      sym (at_fault c.args.q c.args.text.now l.i (phase_of l.at.phase) l.at.opened l.at.right c.loop-i-test.true c.in_default.ensures ∙ l.invariant.comes),
+      omega arith,
+    )
 
 pub loop-i-preserved : goal.loop-i-preserved
 loop-i-preserved c =
@@ -31,7 +33,8 @@ pub returns-else-is_final : goal.returns-else-is_final
 returns-else-is_final c =
     let l = c.loop-i in
     let n : l.i ≡ length c.args.text.now = omega arith in (
-      rw n at (sym (at_end c.args.q c.args.text.now l.i (phase_of l.at.phase) l.at.opened l.at.right c.loop-i-test.false false (sym c.if-is_final.false ∙ c.is_final.ensures)
+      rw n at (sym (at_end c.args.q c.args.text.now l.i (phase_of l.at.phase) l.at.opened l.at.right c.loop-i-test.false false
+          (sym c.if-is_final.false ∙ c.is_final.ensures)
           ∙ l.invariant.comes)),
       omega arith,
     )

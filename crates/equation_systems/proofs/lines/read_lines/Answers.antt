@@ -9,8 +9,10 @@ use Rattle.equation_systems.proofs.lines.read_lines.Goals.{In-loop-i}
 -- there is room for the line
 fits_in : (c : In-loop-i) → (c.loop-i.i * c.args.q + c.args.q ≤ length c.loop-i.coefs) × (c.loop-i.i < length c.loop-i.rights)
 fits_in c =
-    let l = c.loop-i in
-    (rw l.invariant.coefs (row_inside l.i c.requires c.loop-i-test.true), omega (arith, l.invariant.rights, c.requires.sides, c.requires.equations, c.loop-i-test.true))
+    let l = c.loop-i in (
+      rw l.invariant.coefs (row_inside l.i c.requires c.loop-i-test.true),
+      omega (arith, l.invariant.rights, c.requires.sides, c.requires.equations, c.loop-i-test.true),
+    )
 
 pub loop-i-init : goal.loop-i-init
 loop-i-init c = record { coefs = refl; rights = refl; inside = omega arith; reads = rw (zero-mul, sub-zero) }

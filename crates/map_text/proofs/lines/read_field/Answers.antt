@@ -5,11 +5,13 @@ use Rattle.texts.proofs.ParseLaws.{then_malformed, then_parsed}
 use Rattle.map_spec.specs.Reading.{ended_by, read_field}
 use Rattle.map_text.proofs.LineLaws.{no_byte, other_byte, this_byte}
 use Rattle.map_text.proofs.lines.read_field.Goals as goal
-use Rattle.map_text.proofs.lines.read_field.Goals.{In_ok-number, then-text-number-via-then-text-number, then-text-number-via-else-text-number+then-text-number-2}
+use Rattle.map_text.proofs.lines.read_field.Goals.{In_ok-number, then-text-number-via-then-text-number}
+use Rattle.map_text.proofs.lines.read_field.Goals.{then-text-number-via-else-text-number+then-text-number-2}
 
 -- the number was read: what the field comes to
 number_read : (c : In_ok-number)
-    → ended_by (separator c.args.left) c.in_ok-number.number.value (drop c.in_ok-number.number.next c.args.text.now) ≡ read_field c.args.left (drop c.args.at c.args.text.now)
+    → ended_by (separator c.args.left) c.in_ok-number.number.value (drop c.in_ok-number.number.next c.args.text.now)
+    ≡ read_field c.args.left (drop c.args.at c.args.text.now)
 unfolding read_field
 number_read c = then_parsed (ended_by _) c.in_ok-number.ensures
 

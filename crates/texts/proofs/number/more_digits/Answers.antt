@@ -27,7 +27,8 @@ loop-preserved c =
     let n : c.args.k - (l.counter + 1) ≡ c.args.k - l.counter - 1 = omega arith in
     rw n (record {
       room = room_next c.args.most l.value (c.args.k - l.counter) c.in-Some.digit (omega arith) (few c) l.invariant.room;
-      reads = rw c.in-Some.ensures.2 (more_digit _ l.next l.value (c.args.k - l.counter) (omega arith) c.in-Some.ensures.0 c.in-Some.ensures.1 ∙ l.invariant.reads);
+      reads = rw c.in-Some.ensures.2
+          (more_digit _ l.next l.value (c.args.k - l.counter) (omega arith) c.in-Some.ensures.0 c.in-Some.ensures.1 ∙ l.invariant.reads);
     })
 
 pub returns-after-loop : goal.returns-after-loop

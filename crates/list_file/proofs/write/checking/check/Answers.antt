@@ -19,7 +19,8 @@ returns-in_err-check c =
     let s = (goal.at.returns-in_err-check c).Start in
     let p = err_from_is_err_and c.from_residual.result c.from_residual.ensures.1 in
     rw (p.1, p.2)
-    (refused_first (coefficient_checks (list s).coefs then list_checks (list s) c.args.room) c.in_err-check.was c.check.ensures ∙ write_stages (list s) c.args.room)
+    (refused_first (coefficient_checks (list s).coefs then list_checks (list s) c.args.room) c.in_err-check.was c.check.ensures
+    ∙ write_stages (list s) c.args.room)
 
 pub returns-in_err-check-2 : goal.returns-in_err-check-2
 returns-in_err-check-2 c =
