@@ -43,6 +43,7 @@ pub fn walk_desk(
     let mut top = [0u32; 16];
     let mut child = [0u32; 16];
     let mut left = budget;
+    // A while, as it goes on until the stack is empty or a call stops it, and the height rises and falls.
     while 0 < height {
         if left == 0 {
             return calls::left(Answer::Paused, r, height, found, steps, second, deepest);

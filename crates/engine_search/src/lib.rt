@@ -146,6 +146,7 @@ fn back(degrees: &[u32], from: usize, e: u64) -> usize
     ensures { Back degrees.now e from result }
 {
     let mut first = from;
+    // A while, as it goes down until a degree is below e, wherever it began.
     while 0 < first && e <= wide(degrees[first - 1]) {
         first -= 1;
     }

@@ -11,6 +11,7 @@ pub fn skip(text: &[u8], at: usize) -> usize
     ensures { drop result text.now ≡ skipped (drop at text.now) }
 {
     let mut i = at;
+    // A while: a search for what is no space would have to say where the text ends in the place of None.
     while i < text.len() && text[i] == b' ' {
         i += 1;
     }

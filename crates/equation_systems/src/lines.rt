@@ -35,6 +35,7 @@ pub fn line_end(text: &[u8], at: usize) -> usize
     ensures { (result ≡ at + line_length (drop at text.now)) × (result ≤ length text.now) }
 {
     let mut end = at;
+    // A while: a search for the newline would have to say where the text ends in the place of None.
     while end < text.len() && text[end] != b'\n' {
         end += 1;
     }

@@ -68,6 +68,7 @@ fn push_others(
     table_rows::rows::read(stack, level * (q + 1), q, top);
     let mut frozen = marks + bit;
     let sum = sums[level];
+    // A while, as it takes the lowest bit of a mask each time and counts nothing.
     while rest != 0 {
         let i = u32::trailing_zeros(rest) as usize;
         let bit: u32 = 1 << i;

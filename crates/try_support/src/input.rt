@@ -9,6 +9,7 @@ pub fn read_full<R: Read>(reader: &mut R, buf: &mut [u8]) -> io::Result<usize>
     ensures { IfOk result (λ n. n ≤ length buf.new) }
 {
     let mut done = 0;
+    // A while, as it goes by what each read brings, and not by one.
     while done < buf.len() {
         let n = reader.read(&mut buf[done..])?;
         if n == 0 {

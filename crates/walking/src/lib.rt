@@ -45,6 +45,7 @@ pub fn walk_system(
     let mut sums = [0u64; 16];
     products::write_products(q, &gram, stack, height, &mut inner, &mut sums);
     let mut top = [0u32; 16];
+    // A while, as it goes on until the stack is empty or a call stops it, and the height rises and falls.
     while 0 < height {
         if steps == stop {
             if steps - first == budget {

@@ -43,6 +43,7 @@ fn copy_rows(file: &[u8], first: usize, n: usize, list: &mut [u32])
     ensures { list.new ≡ listed n (λ i. stream_at file.now (first + i)) ++ drop n list.old }
 {
     let mut i = 0;
+    // A while, as it goes a block at a time, and the first and the last are cut.
     while i < n {
         let m = smaller(n - i, 126 - (first + i) % 126);
         copy_part(file, first, i, m, list);
