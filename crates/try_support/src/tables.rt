@@ -14,7 +14,10 @@ pub fn put<T: Copy>(table: &mut [T], i: usize, x: T) {
 
 // The place of an entry in a table whose rows have `width` numbers; far past the end of every table here where one of the three is large.
 pub fn place(row: usize, width: usize, column: usize) -> usize {
-    row.saturating_mul(width).saturating_add(column)
+    if row < 65536 && width < 65536 && column < 65536 {
+        return row * width + column;
+    }
+    1000000000000
 }
 
 // The first q numbers of a row, or none where the table ends before.

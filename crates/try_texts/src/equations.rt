@@ -19,12 +19,12 @@ pub fn all(rt: &impl Print, input: &[u8]) -> io::Result<()> {
 
 // Two digits, a space and a text.
 fn line(rt: &impl Print, line: &[u8]) -> io::Result<()> {
-    let Some((q, text)) = line.split_at_checked(3) else {
+    let [tens, ones, _, text @ ..] = line else {
         return println!(rt; "no text");
     };
     rt.write_all(text)?;
     println!(rt; "")?;
-    let q = slices::number(q.get(..2));
+    let q = slices::digit(*tens) * 10 + slices::digit(*ones);
     if 17 < q {
         return println!(rt; "more unknowns than there is space for");
     }

@@ -4,7 +4,7 @@
 //   r N     the first N bytes are read
 //   v N     each bit of the first N bytes is turned in turn, and they are read
 // What was read is written again, which must give the same bytes. After a refusal the tables must be as they were.
-use crate::slices::number;
+use crate::slices::digit;
 use std::io;
 use try_support::{print, tables, up};
 
@@ -24,37 +24,59 @@ pub fn all(rt: &impl Print, input: &[u8]) -> io::Result<()> {
         list: 2048,
     };
     for piece in input.split_inclusive(|b| *b == b'\n') {
-        if let Some(line) = piece.strip_suffix(b"\n") {
-            act(rt, line, &mut file, &mut rooms)?;
+        match piece.iter().position(|b| *b == b'#') {
+            Some(heading) => rt.write_all(&piece[heading..])?,
+            None => {
+                if let Some(line) = piece.strip_suffix(b"\n") {
+                    act(rt, line, &mut file, &mut rooms)?;
+                }
+            }
         }
     }
     Ok(())
 }
 
-// What a line asks for.
+// What a line asks for: its letter is the last byte that is no digit and no space, and the numbers stand behind it.
 fn act(rt: &impl Print, line: &[u8], file: &mut [u8; 8192], rooms: &mut Rooms) -> io::Result<()> {
-    let mut words = line.split(|b| *b == b' ');
-    let letter = words.next().and_then(|w| w.first().copied());
-    let first = number(words.next());
-    let second = number(words.next());
-    match letter {
-        Some(b'#') => {
-            rt.write_all(line)?;
-            println!(rt; "")
-        }
-        Some(b'b') => {
+    let Some(at) = line.iter().rposition(|b| !matches!(b, b' ' | b'0'..=b'9')) else {
+        return Ok(());
+    };
+    let (first, second) = numbers(&line[at + 1..]);
+    match line[at] {
+        b'b' => {
             tables::put(file, first, (second % 256) as u8);
             Ok(())
         }
-        Some(b't') => {
+        b't' => {
             rooms.coefs = first;
             rooms.list = second;
             Ok(())
         }
-        Some(b'r') => show(rt, tables::first(file, first), *rooms),
-        Some(b'v') => turned(rt, file, first, *rooms),
+        b'r' => show(rt, tables::first(file, first), *rooms),
+        b'v' => turned(rt, file, first, *rooms),
         _ => Ok(()),
     }
+}
+
+// The first number is between the first two spaces; all other digits are the second's.
+fn numbers(text: &[u8]) -> (usize, usize) {
+    let mut first = 0;
+    let mut second = 0;
+    for (k, word) in text.split(|b| *b == b' ').enumerate() {
+        for byte in word {
+            if k == 1 {
+                first = longer(first, *byte);
+            } else {
+                second = longer(second, *byte);
+            }
+        }
+    }
+    (first, second)
+}
+
+// A number with one digit more; it stays where it would be long.
+fn longer(n: usize, byte: u8) -> usize {
+    if n < 100000 { n * 10 + digit(byte) } else { n }
 }
 
 // Reads a file, and says what came of it.

@@ -9,14 +9,27 @@ mod files; // files.rt: lists as files
 mod maps; // maps.rt: maps, and what is printed for them
 mod slices; // slices.rt: parts of texts
 
+// How many bytes of the input are looked through for the signs.
+const SEARCHED: usize = 65536;
+
 fn main(rt: HostRuntime) -> io::Result<()> {
-    let mut buffer = [0u8; 131072];
-    let n = input::read_full(&mut rt.reader(), &mut buffer)?;
-    let text = &buffer[..n];
-    let mut sections = text.splitn(3, |b| *b == b'@');
-    maps::all(&rt, slices::section(sections.next()))?;
+    let mut buffer = [0u8; 2 * SEARCHED];
+    let n = input::read_full(&mut rt.reader(), &mut buffer[..SEARCHED])?;
+    let n = n.min(SEARCHED);
+    let mut sections = buffer[..n].splitn(3, |b| *b == b'@');
+    let of_maps = sections.next().unwrap_or(&[]);
+    maps::all(&rt, of_maps)?;
     println!(rt; "@")?;
-    equations::all(&rt, slices::section(sections.next()))?;
+    let of_equations = sections.next().unwrap_or(&[]);
+    equations::all(&rt, slices::without_end(of_equations))?;
     println!(rt; "@")?;
-    files::all(&rt, slices::section(sections.next()))
+    // two signs, and the end of the second one's line; the section of files goes on where what was looked through ends
+    let at = of_maps
+        .len()
+        .saturating_add(of_equations.len())
+        .saturating_add(3)
+        .min(n);
+    let more = input::read_full(&mut rt.reader(), &mut buffer[n..n + SEARCHED])?;
+    let end = (n + SEARCHED).min(n.saturating_add(more));
+    files::all(&rt, slices::part(&buffer, at, end))
 }

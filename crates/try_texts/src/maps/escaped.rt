@@ -1,6 +1,6 @@
 // The text that an escaped line stands for. `\n`, `\r`, `\t`, `\0` and `\\` stand for a byte, and so does `\x` with two hexadecimal digits; `{3*0 }`
 // stands for `0 ` three times, and holds no other braces; each other byte stands for itself.
-ghost use Rattle.std.specs.Prelude.{length, ◌≤◌};
+ghost use Rattle.std.specs.Prelude.{length, ◌≤◌, IfSome};
 
 use crate::slices;
 use try_support::tables;
@@ -16,7 +16,9 @@ pub fn read(line: &[u8], text: &mut [u8]) -> usize {
         rest = others;
         match *first {
             b'\\' => {
-                let (byte, after) = escape(others);
+                let Some((byte, after)) = escape(others) else {
+                    return length;
+                };
                 tables::put(text, length, byte);
                 length = length.wrapping_add(1);
                 rest = after;
@@ -26,7 +28,7 @@ pub fn read(line: &[u8], text: &mut [u8]) -> usize {
                 (times, rest) = count(others);
             }
             b'}' => {
-                let end = group.wrapping_add(times.saturating_mul(length.wrapping_sub(group)));
+                let end = group.wrapping_add(tables::place(times, length.wrapping_sub(group), 0));
                 repeat(text, length, end, length.wrapping_sub(group));
                 length = end;
             }
@@ -39,18 +41,19 @@ pub fn read(line: &[u8], text: &mut [u8]) -> usize {
     length
 }
 
-// The byte that an escape stands for, which begins after its backslash, and what comes after it.
-fn escape(rest: &[u8]) -> (u8, &[u8])
-    ensures { length result.1.now ≤ length rest.now }
+// The byte that an escape stands for, which begins after its backslash, and what comes after it. One that the line cuts short stands for nothing.
+fn escape(rest: &[u8]) -> Option<(u8, &[u8])>
+    ensures { IfSome result (λ found. length found.1.now ≤ length rest.now) }
 {
     match rest {
-        [b'x', high, low, after @ ..] => (digit(*high) * 16 + digit(*low), after),
-        [b'n', after @ ..] => (b'\n', after),
-        [b'r', after @ ..] => (b'\r', after),
-        [b't', after @ ..] => (b'\t', after),
-        [b'0', after @ ..] => (0, after),
-        [byte, after @ ..] => (*byte, after),
-        [] => (b'\\', rest),
+        [b'x', high, low, after @ ..] => Some((digit(*high) * 16 + digit(*low), after)),
+        [b'x', ..] => None,
+        [b'n', after @ ..] => Some((b'\n', after)),
+        [b'r', after @ ..] => Some((b'\r', after)),
+        [b't', after @ ..] => Some((b'\t', after)),
+        [b'0', after @ ..] => Some((0, after)),
+        [byte, after @ ..] => Some((*byte, after)),
+        [] => None,
     }
 }
 
@@ -69,12 +72,14 @@ fn digit(b: u8) -> u8
 fn count(rest: &[u8]) -> (usize, &[u8])
     ensures { length result.1.now ≤ length rest.now }
 {
-    let mut parts = rest.splitn(2, |b| *b == b'*');
-    let times = slices::number(parts.next());
-    match parts.next() {
-        Some(after) => (times, after),
-        None => (times, &[]),
+    let mut times: usize = 0;
+    for (i, byte) in rest.iter().enumerate() {
+        if *byte == b'*' {
+            return (times, &rest[i + 1..]);
+        }
+        times = (times % 1000) * 10 + usize::from(digit(*byte));
     }
+    (times, &[])
 }
 
 // The copies of a group: each byte from `start` up to `end` is the one that stands `period` bytes before.
