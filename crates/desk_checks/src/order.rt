@@ -23,7 +23,7 @@ pub fn in_order(q: usize, generators: &[u32], stack: &[u32], list: &[u32], r: Re
     ensures { result ≡ desk_in_order (desk_of 0 q [] generators.now) (state_of stack.now list.now r) }
 {
     // record_order::in_order asks the first five of other runs: a function of them would take as many parameters as it makes tests.
-    r.kind == RunKind::Desks
+    calls::same_run(r.kind, RunKind::Desks)
         && r.height <= generators.len() / q
         && r.found.0 <= list.len() / q
         && r.steps.0 <= calls::STEP_LIMIT

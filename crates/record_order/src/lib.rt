@@ -31,7 +31,7 @@ pub fn in_order(
     let found = r.found.0;
     let steps = r.steps.0;
     let deepest = r.deepest;
-    if own != kind {
+    if !calls::same_run(own, kind) {
         return false;
     }
     if q < height {

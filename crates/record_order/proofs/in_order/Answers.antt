@@ -1,20 +1,15 @@
 -- `record_order::in_order` meets its contract: a test that fails decides. Assumes nothing.
-use mathlib.Core.Bool.{true, false, and-false}
-use mathlib.Core.Path.{◌≡◌}
+use mathlib.Core.Bool.{false, and-false}
+use mathlib.Core.Path.{◌≡◌, sym, ◌∙◌}
 use lib.Dec.{leb}
 use borrow.Author.Tests.{le-leb, lt-leb}
-use borrow.Author.Rules.{rules}
 use Rattle.definitions.specs.Refusals.{deepest_limit}
-use Rattle.definitions.specs.Tables.{is_run}
-use Rattle.calls.specs.Paper.{kind_of}
 use Rattle.record_order.specs.Order.{record_fits}
 use Rattle.record_order.proofs.in_order.Goals as goal
 
-pub returns-then-ne : goal.returns-then-ne
+pub returns-then-not-same_run : goal.returns-then-not-same_run
 unfolding record_fits
-returns-then-ne c =
-    let other : is_run (kind_of c.args.r.kind) (kind_of c.args.kind) ≡ false = search rules in
-    rw other
+returns-then-not-same_run c = let e = sym c.same_run.ensures ∙ c.if-not-same_run.true in rw e
 
 pub returns-then-q-height : goal.returns-then-q-height
 unfolding record_fits
@@ -41,9 +36,8 @@ returns-then-list-width c = rw (lt-leb _ _ c.if-list-width.true, and-false, and-
 pub returns : goal.returns
 unfolding record_fits
 returns c =
-    let own : is_run (kind_of c.args.r.kind) (kind_of c.args.kind) ≡ true = search rules in
     rw (
-      own,
+      sym c.same_run.ensures ∙ c.if-not-same_run.false,
       le-leb _ _ c.if-q-height.false,
       le-leb _ _ c.if-list-width.false,
       le-leb _ _ c.if-steps-gt-STEP_LIMIT.false,
