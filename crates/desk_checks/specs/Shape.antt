@@ -120,7 +120,7 @@ pub record Handed (p q coefs : ℕ) (generators : List ℕ) : Type 0 where
   pub count : coefs ≡ p * q
   pub small : (i : ℕ) → i < length generators → get_or generators i 0 ≤ most_component
 
-handed_by : {p q coefs : ℕ} {generators : List ℕ} {stack : ℕ} → InShape p q coefs (length generators) stack
+pub handed_by : {p q coefs : ℕ} {generators : List ℕ} {stack : ℕ} → InShape p q coefs (length generators) stack
     → all_to (length generators) (λ i. leb (get_or generators i 0) most_component) ≡ true → Handed p q coefs generators
 handed_by {generators = generators} s h =
     record {

@@ -44,10 +44,10 @@ zero_test x f = T-same (eqb (of_z w64 x) 0) (is_zero x) (λ h. back (eqb→eq (o
     is_zero_lem (pos n) h = ap pos (eqb→eq n 0 h)
     is_zero_lem (negsuc n) h = absurd h
 
-large_small : (x : ℤ) → lt_z (pos most_component) x ≡ true → le_z x (pos most_component) ≡ false
+pub large_small : (x : ℤ) → lt_z (pos most_component) x ≡ true → le_z x (pos most_component) ≡ false
 large_small x h = T-same (le_z x (pos most_component)) false (λ y. clash_ℤ (lt_z_yes {a = pos most_component} {b = x} (rw h tt)) (le_z_yes y)) (λ y. absurd y)
 
-small_large : (x : ℤ) → lt_z (pos most_component) x ≡ false → le_z x (pos most_component) ≡ true
+pub small_large : (x : ℤ) → lt_z (pos most_component) x ≡ false → le_z x (pos most_component) ≡ true
 small_large x h = T-same (le_z x (pos most_component)) true (λ y. tt) (λ y. (lt_z_no {a = pos most_component} {b = x} (rw h tt)).le)
 
 pub not_large : (x : ℤ) → not (lt_z (pos most_component) x) ≡ le_z x (pos most_component)

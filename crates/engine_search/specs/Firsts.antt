@@ -87,16 +87,16 @@ unfolding least_to
 least_start d f = refl
 
 module _ (d x y : ℕ) where
-  lesser_new : d < x → (y ≡ 0) ⊎ (x < y) → lesser d x y ≡ x
+  pub lesser_new : d < x → (y ≡ 0) ⊎ (x < y) → lesser d x y ≡ x
   unfolding lesser
   lesser_new l (inl e) = rw (lt-ltb d x l, e) refl
   lesser_new l (inr h) = rw (lt-ltb d x l, ne_eqb y 0 (omega arith), lt-ltb x y h) refl
 
-  lesser_old : 0 < y → y ≤ x → lesser d x y ≡ y
+  pub lesser_old : 0 < y → y ≤ x → lesser d x y ≡ y
   unfolding lesser
   lesser_old l h = rw (ne_eqb y 0 (omega arith), le-ltb x y h, and-false) refl
 
-  lesser_early : x ≤ d → lesser d x y ≡ y
+  pub lesser_early : x ≤ d → lesser d x y ≡ y
   unfolding lesser
   lesser_early l = rw (le-ltb d x l) refl
 
