@@ -20,7 +20,9 @@ pub fn copy_rows(rows: &[u32], n: usize, basis: &mut [u32])
     requires { (n ≤ length rows.now) × (n ≤ length basis.old) }
     ensures { basis.new ≡ write_to n basis.old 0 (λ k. get_or rows.now k 0) }
 {
-    basis[..n].copy_from_slice(&rows[..n]);
+    for i in 0..n {
+        basis[i] = rows[i];
+    }
 }
 
 // u times the equation from place x and t times that from place y, in the place of the first.
