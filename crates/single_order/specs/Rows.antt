@@ -1,11 +1,14 @@
 -- A row of a list table as a tuple, the number of its ones, and what `order_of` leaves. Assumes nothing.
 use Rattle.std.specs.Prelude.{ℕ, zero, suc, ◌+◌, ◌*◌, ◌≤◌, ◌<◌, ◌≡◌, Bool, true, false, not, ◌&&◌, ◌||◌, Option, Some, None, List, eqb, ltb, length, get_or, ℤ}
 use Rattle.std.proofs.Math.Path.{refl, sym}
+use Rattle.std.proofs.Common.{add-one}
+use Rattle.std.proofs.Math.Nat.{le_antisymm}
 use native.Mathlib.Omega.{arith}
 use Rattle.std.specs.Option.{option_eq}
 use Rattle.std.proofs.Math.Dec.{leb}
 use Rattle.std.proofs.lemmas.Bool.Decides.{nat_tests}
-use borrow.Author.Tests.{eq-eqb, le-ltb, lt-ltb, ltb-false, ltb-true, ne_eqb}
+use borrow.Author.Tests.{eq-eqb, le-leb, le-ltb, lt-leb, lt-ltb, ltb-false, ltb-true, ne_eqb}
+use Rattle.linear.proofs.LoopLaws.{all_fails, all_next}
 use Rattle.linear.specs.Tests.{all_to, any_to, count_to}
 use Rattle.definitions.specs.Input.{input_of, system_of}
 use Rattle.definitions.specs.System.{System, coef}
@@ -58,6 +61,44 @@ named_yes n h = lt-ltb 0 n (omega arith)
 
 pub named_no : (n : ℕ) → n ≡ 0 → ltb 0 n ≡ false
 named_no n e = le-ltb 0 n (omega arith)
+
+-- ---- the count of ones
+
+-- the components before j are 0 or 1, and n of them are 1
+pub record Ones (x : ℕ → ℕ) (j n : ℕ) : Type 0 where
+  pub small : all_to j (λ i. leb (x i) 1) ≡ true
+  pub count : n ≡ size j x
+  pub few : n ≤ j
+
+pub ones_none : (x : ℕ → ℕ) → Ones x 0 0
+ones_none x = record { small = unfold all_to in refl; count = unfold size count_to in refl; few = omega arith }
+
+module _ {x : ℕ → ℕ} {j n : ℕ} (h : Ones x j n) where
+  pub ones_zero : x j ≡ 0 → Ones x (j + 1) n
+  unfolding size count_to
+  ones_zero e =
+      record {
+        small = all_next j _ h.small (le-leb (x j) 1 (omega arith));
+        count = rw (add-one j, named_no (x j) e) (omega (arith, h.count));
+        few = omega (arith, h.few);
+      }
+
+  pub ones_one : x j ≡ 1 → Ones x (j + 1) (n + 1)
+  unfolding size count_to
+  ones_one e =
+      record {
+        small = all_next j _ h.small (le-leb (x j) 1 (omega arith));
+        count = rw (add-one j, named_yes (x j) (omega arith)) (omega (arith, h.count));
+        few = omega (arith, h.few);
+      }
+
+  pub ones_large : (q : ℕ) → j < q → (x j ≡ 0 → ⊥) → (x j ≡ 1 → ⊥) → None ≡ ones_of q x
+  unfolding ones_of
+  ones_large q l z o = rw (all_fails q (λ i. leb (x i) 1) j l (lt-leb (x j) 1 (omega arith))) refl
+
+  pub ones_all : (q : ℕ) → j ≤ q → q ≤ j → Some n ≡ ones_of q x
+  unfolding ones_of
+  ones_all q a b = let e = le_antisymm a b in rw (← e, h.small, h.count) refl
 
 -- ---- what is there, and what is not
 

@@ -43,10 +43,15 @@ fn ones(q: usize, list: &[u32], base: usize) -> Option<usize>
     requires { base + q ≤ length list.now }
     ensures { result ≡ ones_of q (row_of list.now base) }
 {
-    if (0..q).any(|j| 1 < list[base + j]) {
-        return None;
+    let mut n = 0;
+    for j in 0..q {
+        match list[base + j] {
+            0 => {}
+            1 => n += 1,
+            _ => return None,
+        }
     }
-    Some((0..q).filter(|j| list[base + *j] != 0).count())
+    Some(n)
 }
 
 // The lowest unknown of the row that is not 0.

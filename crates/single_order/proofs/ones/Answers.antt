@@ -1,19 +1,21 @@
--- `ones` meets its contract. Assumes nothing.
-use Rattle.std.proofs.Common.{refl, sym, ◌∙◌, rules}
-use borrow.Author.Tests.{tests}
-use Rattle.chains.proofs.ChainLaws.{any_in_range}
-use Rattle.single_spec.specs.Graph.{named}
-use Rattle.single_order.proofs.RangeLaws.{counted_in_range}
-use Rattle.single_order.specs.Rows.{large_none, small_some, row_of}
+-- `ones` meets its contract. The components passed are 0 or 1, and so many are 1. Assumes nothing.
+use Rattle.std.proofs.Common.{rules}
+use Rattle.single_order.specs.Rows.{ones_all, ones_large, ones_none, ones_one, ones_zero}
 use Rattle.single_order.proofs.ones.Goals as goal
+use Rattle.single_order.proofs.ones.Goals.{in-0, in-1}
 
-pub returns-then-any : goal.returns-then-any
-returns-then-any c =
-    large_none _ (row_of c.args.list.now c.args.base) (sym (any_in_range c.any.ensures.ran refl (λ x b q k. search (rules, tests))) ∙ c.if-any.true)
+pub loop-j-init : goal.loop-j-init
+loop-j-init c = ones_none _
+
+pub returns-in_default : goal.returns-in_default
+returns-in_default c = ones_large c.loop-j.invariant _ c.loop-j-test.true (search rules) (search rules)
+
+pub loop-j-preserved : goal.loop-j-preserved
+loop-j-preserved c =
+    elim c.match-list-base.branch [
+      | in-0 w ↦ rw w.n-is (ones_zero c.loop-j.invariant (search rules))
+      | in-1 w ↦ rw w.n-is (ones_one c.loop-j.invariant (search rules))
+    ]
 
 pub returns : goal.returns
-returns c =
-    small_some _ (row_of c.args.list.now c.args.base)
-    (sym (any_in_range c.any.ensures.ran refl (λ x b q k. search (rules, tests))) ∙ c.if-any.false)
-    (counted_in_range {f = named (row_of c.args.list.now c.args.base)} c.count.ensures.ran c.filter.ensures.source c.filter.ensures.closure
-    (λ x b q k. search (rules, tests)))
+returns c = ones_all c.loop-j.invariant _ c.loop-j.auto.j-end c.loop-j-test.false
