@@ -84,7 +84,7 @@ impl<T: Copy + PartialEq + From<Word>, const N: usize> Table<T, N> {
     }
 
     // Whether it has room for all its entries.
-    fn fits(&self) -> bool {
+    pub fn fits(&self) -> bool {
         self.length <= N
     }
 
@@ -173,20 +173,6 @@ impl Line {
             at: 0,
             after: false,
         }
-    }
-
-    // Whether each table has room for its entries.
-    pub fn fits(&self) -> bool {
-        self.coefs.fits()
-            && self.list.fits()
-            && self.tuple.fits()
-            && self.generators.fits()
-            && self.stack.fits()
-            && self.rights.fits()
-            && self.second.fits()
-            && self.record.fits()
-            && self.shares.fits()
-            && self.equations.fits()
     }
 
     // One more word, if it is one.

@@ -1,6 +1,6 @@
 // The kinds of call: each is made as its line has it, and held against what the line says must come of it.
 use crate::answered;
-use calls::{Outcome, Record, RunKind, Solutions, Steps};
+use calls::{Outcome, Record, Refusal, RunKind, Solutions, Steps};
 use try_support::line::Line;
 
 // The kinds of call, by the letters of their lines.
@@ -17,12 +17,20 @@ pub const KINDS: [(&str, u8); 10] = [
     ("climb", b'c'),
 ];
 
-// Whether the call comes to its answer, its record and every entry of its tables.
+// Whether the call comes to its answer, its record and every entry of its tables. One whose map, right sides or bound have no room is not made.
 pub fn agrees(kind: u8, l: &Line) -> bool {
+    if !(l.coefs.fits() && l.rights.fits() && l.tuple.fits()) {
+        return false;
+    }
     let mut stack = l.stack;
     let mut list = l.list;
     let mut second = l.second;
-    let o = made(kind, l, stack.lend(), list.lend(), second.lend());
+    let o = if l.stack.fits() && l.list.fits() && l.second.fits() {
+        made(kind, l, stack.lend(), list.lend(), second.lend())
+    } else {
+        // what it is to work on has no room: an answer that no line of a section has
+        calls::refused(Refusal::Column(0), record(l))
+    };
     answered::answers(l, o.answer)
         && records(l, o.run)
         && stack.agrees()

@@ -1,12 +1,22 @@
 // The kinds of call: each is made as its line has it, and held against what the line says must come of it.
 use try_support::line::Line;
 
-// Whether the call comes to its answer, its record and every entry of its tables.
+// The answer where what a call is to work on has no room: no line of a section has it.
+const NO_ROOM: u64 = 255;
+
+// Whether the call comes to its answer, its record and every entry of its tables. One whose map or list of generators has no room is not made.
 pub fn agrees(kind: u8, l: &Line) -> bool {
+    if !(l.coefs.fits() && l.generators.fits()) {
+        return false;
+    }
     let mut stack = l.stack;
     let mut list = l.list;
     let mut record = l.record;
-    let answer = made(kind, l, stack.lend(), list.lend(), record.lend());
+    let answer = if l.stack.fits() && l.list.fits() && l.record.fits() {
+        made(kind, l, stack.lend(), list.lend(), record.lend())
+    } else {
+        NO_ROOM
+    };
     answer == l.answered[0] && stack.agrees() && list.agrees() && record.agrees()
 }
 

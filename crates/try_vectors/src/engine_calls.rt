@@ -3,24 +3,49 @@
 use try_support::line::{Line, ROOM};
 use try_support::tables::{first, first_mut};
 
+// An answer that no line has: the line's tables have no room here, or an entry is another.
+const OTHER: u64 = 255;
+
 // Whether the call comes to its answer, its record and every entry of its tables.
 pub fn agrees(kind: u8, l: &Line) -> bool {
-    // the lengths of the tables of numbers lent as zeros: the sizes, values, words, degrees and marks
-    let lengths = first(&l.shares.before, 5);
-    if lengths.iter().any(|n| *n > ROOM as u64) {
-        return false;
+    let mut record = l.record;
+    answer(kind, l, record.lend()) == l.answered[0] && record.agrees()
+}
+
+// The answer, where the tables are left as the line says.
+fn answer(kind: u8, l: &Line, record: &mut [u64]) -> u64 {
+    let start = matches!(kind, b's' | b'f' | b'w');
+    if !fits(l, start) {
+        return OTHER;
     }
     let mut equations = l.equations;
     let mut basis = l.list;
-    let mut record = l.record;
     let e = equations.lend();
     let b = basis.lend();
-    let w = record.lend();
-    let (answer, kept) = match kind {
-        b's' | b'f' | b'w' => (started(kind, l, e, b, w), true),
-        _ => made(kind, l, e, b, w),
+    let (answer, kept) = if start {
+        // it leaves the line's own table as it is
+        (started(kind, l, e, b, record), l.stack.agrees())
+    } else {
+        made(kind, l, e, b, record)
     };
-    answer == l.answered[0] && kept && equations.agrees() && basis.agrees() && record.agrees()
+    if kept && equations.agrees() && basis.agrees() {
+        answer
+    } else {
+        OTHER
+    }
+}
+
+// Whether there is room for the tables, and for those of numbers lent as zeros: the sizes, and of a run under way the values, words, degrees and marks too.
+fn fits(l: &Line, start: bool) -> bool {
+    let lengths = first(&l.shares.before, if start { 1 } else { 5 });
+    lengths.iter().all(|n| *n <= ROOM as u64)
+        && l.equations.fits()
+        && l.list.fits()
+        && l.coefs.fits()
+        && l.rights.fits()
+        && l.stack.fits()
+        && l.tuple.fits()
+        && l.record.fits()
 }
 
 // A start, plain, from a list or for right sides: of the second the rows, of the third the bound are the line's table.

@@ -111,21 +111,20 @@ fn ended(rt: &impl Print, s: &mut State) -> io::Result<()> {
     Ok(())
 }
 
-// Whether the call of a line comes to what the line says. One whose tables have no room is not made.
+// Whether the call of a line comes to what the line says.
 fn agrees(family: Option<Family>, kind: u8, l: &Line) -> bool {
     let Some(family) = family else {
         return false;
     };
-    l.fits()
-        && match family {
-            Family::Plain => plain::agrees(kind, l),
-            Family::Capped => capped::agrees(kind, l),
-            Family::Desks => desks::agrees(kind, l),
-            Family::Several => several::agrees(l),
-            Family::Engine => engine_calls::agrees(kind, l),
-            Family::Questions => questions::agrees(kind, l),
-            Family::Reformulations => reformulations::agrees(kind, l),
-        }
+    match family {
+        Family::Plain => plain::agrees(kind, l),
+        Family::Capped => capped::agrees(kind, l),
+        Family::Desks => desks::agrees(kind, l),
+        Family::Several => several::agrees(l),
+        Family::Engine => engine_calls::agrees(kind, l),
+        Family::Questions => questions::agrees(kind, l),
+        Family::Reformulations => reformulations::agrees(kind, l),
+    }
 }
 
 // The name of the family, and what the lines of its section came to: by the kinds of calls, and all together.

@@ -19,9 +19,10 @@ pub const KINDS: [(&str, u8); 6] = [
     ("order", b'o'),
 ];
 
-// Whether the call of a line comes to what the line says.
+// Whether the call of a line comes to what the line says. One whose tables have no room is not made.
 pub fn agrees(kind: u8, l: &Line) -> bool {
-    match kind {
+    let fits = l.coefs.fits() && l.tuple.fits() && l.stack.fits() && l.list.fits();
+    fits && match kind {
         b's' | b'r' | b'b' | b'g' => run(kind, l),
         b'o' => order(l),
         b'v' => view(l),

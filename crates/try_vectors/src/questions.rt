@@ -6,8 +6,12 @@ use try_support::line::Line;
 // The kinds of question, by the letters of their lines.
 pub const KINDS: [(&str, u8); 2] = [("questions", b'q'), ("engine", b'e')];
 
-// Whether the answers are those of the line: why the tuple is not listed, which row stopped it, and what it is made of.
+// Whether the answers are those of the line: why the tuple is not listed, which row stopped it, and what it is made of. One whose tables have no room is
+// not asked.
 pub fn agrees(kind: u8, l: &Line) -> bool {
+    if !(l.coefs.fits() && l.list.fits() && l.tuple.fits() && l.second.fits()) {
+        return false;
+    }
     let p = l.operands[0] as usize;
     let q = l.operands[1] as usize;
     let found = l.operands[2] as usize;

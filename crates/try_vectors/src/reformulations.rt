@@ -7,9 +7,13 @@ use try_support::tables::first;
 // The kinds of call, by the letters of their lines.
 pub const KINDS: [(&str, u8); 2] = [("shown", b's'), ("projected", b'p')];
 
-// Whether the answer is that of the line.
+// Whether the answer is that of the line. One whose tables have no room is not asked; the words h are read as far as they have room.
 pub fn agrees(kind: u8, l: &Line) -> bool {
-    if kind == b'p' { projects(l) } else { shows(l) }
+    if kind == b'p' {
+        return l.list.fits() && l.second.fits() && projects(l);
+    }
+    let maps = l.coefs.fits() && l.equations.fits() && l.rights.fits();
+    maps && l.record.fits() && shows(l)
 }
 
 fn shows(l: &Line) -> bool {

@@ -1,8 +1,11 @@
 // The call of a line: it is made as the line has it, and held against what the line says must come of it.
 use try_support::line::Line;
 
-// Whether the call comes to its number, and every entry of its tables and words.
+// Whether the call comes to its number, and every entry of its tables and words. One whose tables have no room is not made.
 pub fn agrees(l: &Line) -> bool {
+    if !(l.coefs.fits() && l.stack.fits() && l.list.fits() && l.shares.fits() && l.record.fits()) {
+        return false;
+    }
     let mut stack = l.stack;
     let mut list = l.list;
     let mut round = l.record;
