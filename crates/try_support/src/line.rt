@@ -36,10 +36,9 @@ impl Word {
             b'-' => self.minus = true,
             b'0'..=b'9' => {
                 self.digits = true;
-                self.number = self
-                    .number
-                    .wrapping_mul(10)
-                    .wrapping_add(u64::from(b - b'0'));
+                let digit = u64::from(b - b'0');
+                // ten times what is left is a u64: a number that would be longer begins anew
+                self.number = (self.number % 1844674407370955162 * 10).wrapping_add(digit);
             }
             _ => self.letter = self.letter.or(Some(b)),
         }
