@@ -57,10 +57,14 @@ impl From<Word> for u32 {
     }
 }
 
+// The lower 31 bits of the number, with the sign of the word: -1 - x is what the bits of x are when each is turned over.
 impl From<Word> for i32 {
     fn from(w: Word) -> i32 {
-        let size = u32::from(w);
-        if w.minus { size.wrapping_neg() } else { size }.cast_signed()
+        if w.minus {
+            !((w.number.wrapping_sub(1) % 2147483648) as i32)
+        } else {
+            (w.number % 2147483648) as i32
+        }
     }
 }
 
