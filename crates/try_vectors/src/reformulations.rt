@@ -1,8 +1,9 @@
 // The calls of a line: a map in the place of another (kind s) and rows without their further unknowns (kind p). Of the first the operands are p, q, k, m and
 // how many of the words h are those `back`; c, e and b are the three maps, r the multiples onto, h those back and then those above, each number as the 64 bits
 // that it has. Of the second they are q, k and the count of rows; l are the rows, n the table for them before and after.
+use std::array;
 use try_support::line::{Line, RECORD};
-use try_support::tables::first;
+use try_support::tables::{at, first};
 
 // The kinds of call, by the letters of their lines.
 pub const KINDS: [(&str, u8); 2] = [("shown", b's'), ("projected", b'p')];
@@ -21,7 +22,9 @@ fn shows(l: &Line) -> bool {
     let onto = integers(&l.record.before);
     let others = integers(&l.shares.before);
     let back = first(&others, split);
-    let above = first(&others, l.shares.len()).get(split..).unwrap_or(&[]);
+    // where `split` is more than there are words h, their number less it wraps: all from `split` on are above, and zeros where the table ends
+    let rest: [i64; RECORD] = array::from_fn(|i| at(&others, split.wrapping_add(i)));
+    let above = first(&rest, l.shares.len().wrapping_sub(split));
     reformulation::reformulates(
         l.operands[0] as usize,
         l.operands[1] as usize,
