@@ -42,7 +42,11 @@ pub fn agrees(kind: u8, l: &Line) -> bool {
         && times.agrees()
 }
 
-// A number with its sign.
+// The lower 63 bits of a number, with a sign: -1 - x is what the bits of x are when each is turned over.
 fn signed(size: u64, minus: bool) -> i64 {
-    if minus { size.wrapping_neg() } else { size }.cast_signed()
+    if minus {
+        !((size.wrapping_sub(1) % 9223372036854775808) as i64)
+    } else {
+        (size % 9223372036854775808) as i64
+    }
 }
