@@ -4,9 +4,9 @@
 //   r N     the first N bytes are read
 //   v N     each bit of the first N bytes is turned in turn, and they are read
 // What was read is written again, which must give the same bytes. After a refusal the tables must be as they were.
-use crate::slices::digit;
+use crate::slices::{digit, part};
 use std::io;
-use try_support::{print, tables, up};
+use try_support::{input, print, tables, up};
 
 // What stands in the tables before a call.
 const BEFORE: u32 = 77;
@@ -17,18 +17,50 @@ struct Rooms {
     list: usize,
 }
 
-pub fn all(rt: &impl Print, input: &[u8]) -> io::Result<()> {
+// The section, which so far stands in `text` from `at` up to `end`. More of it is read behind that only once this is done, so that it is told before a read
+// that fails or waits.
+pub fn all(rt: &(impl Input + Print), text: &mut [u8], at: usize, end: usize) -> io::Result<()> {
     let mut file = [0u8; 8192];
     let mut rooms = Rooms {
         coefs: 128,
         list: 2048,
     };
-    for piece in input.split_inclusive(|b| *b == b'\n') {
+    let end = end.min(text.len());
+    let first = part(text, at, end);
+    lines(rt, first, &mut file, &mut rooms)?;
+    let under = under_way(first);
+    let heading = under.contains(&b'#');
+    let start = end.saturating_sub(under.len());
+    let more = input::read_full(&mut rt.reader(), &mut text[end..])?;
+    let stop = end.saturating_add(more);
+    if !heading {
+        return lines(rt, part(text, start, stop), &mut file, &mut rooms);
+    }
+    // what came of a heading is printed
+    let rest = part(text, end, stop);
+    let line = rest.split_inclusive(|b| *b == b'\n').next().unwrap_or(&[]);
+    rt.write_all(line)?;
+    lines(
+        rt,
+        part(rest, line.len(), rest.len()),
+        &mut file,
+        &mut rooms,
+    )
+}
+
+// What came so far of a line that has no end yet.
+fn under_way(text: &[u8]) -> &[u8] {
+    text.rsplit(|b| *b == b'\n').next().unwrap_or(&[])
+}
+
+// Does what each line asks for. A last one without an end is printed if it is a heading, and left if not.
+fn lines(rt: &impl Print, text: &[u8], file: &mut [u8; 8192], rooms: &mut Rooms) -> io::Result<()> {
+    for piece in text.split_inclusive(|b| *b == b'\n') {
         match piece.iter().position(|b| *b == b'#') {
             Some(heading) => rt.write_all(&piece[heading..])?,
             None => {
                 if let Some(line) = piece.strip_suffix(b"\n") {
-                    act(rt, line, &mut file, &mut rooms)?;
+                    act(rt, line, file, rooms)?;
                 }
             }
         }

@@ -16,20 +16,13 @@ fn main(rt: HostRuntime) -> io::Result<()> {
     let mut buffer = [0u8; 2 * SEARCHED];
     let n = input::read_full(&mut rt.reader(), &mut buffer[..SEARCHED])?;
     let n = n.min(SEARCHED);
-    let mut sections = buffer[..n].splitn(3, |b| *b == b'@');
-    let of_maps = sections.next().unwrap_or(&[]);
+    let (of_maps, rest) = slices::section(&buffer[..n]);
     maps::all(&rt, of_maps)?;
     println!(rt; "@")?;
-    let of_equations = sections.next().unwrap_or(&[]);
-    equations::all(&rt, slices::without_end(of_equations))?;
+    let (of_equations, of_files) = slices::section(rest);
+    equations::all(&rt, of_equations)?;
     println!(rt; "@")?;
-    // two signs, and the end of the second one's line; the section of files goes on where what was looked through ends
-    let at = of_maps
-        .len()
-        .saturating_add(of_equations.len())
-        .saturating_add(3)
-        .min(n);
-    let more = input::read_full(&mut rt.reader(), &mut buffer[n..n + SEARCHED])?;
-    let end = (n + SEARCHED).min(n.saturating_add(more));
-    files::all(&rt, slices::part(&buffer, at, end))
+    // the section of files goes on where what was looked through ends
+    let at = n.saturating_sub(of_files.len());
+    files::all(&rt, &mut buffer[..n + SEARCHED], at, n)
 }

@@ -6,9 +6,12 @@ pub fn part(bytes: &[u8], start: usize, end: usize) -> &[u8] {
     bytes.get(start..end).unwrap_or(&[])
 }
 
-// A section of the input, without the end of the line on which the sign before it stands.
-pub fn without_end(section: &[u8]) -> &[u8] {
-    section.get(1..).unwrap_or(&[])
+// The bytes before the first sign @, and those after it and after one byte more, which ends its line.
+pub fn section(bytes: &[u8]) -> (&[u8], &[u8]) {
+    let sign = bytes.iter().position(|b| *b == b'@');
+    let end = sign.unwrap_or(bytes.len());
+    let after = bytes.get(end.saturating_add(2)..);
+    (part(bytes, 0, end), after.unwrap_or(&[]))
 }
 
 // The value of a digit, and 0 of any other byte.
