@@ -1,10 +1,16 @@
--- A refusal with the first place, from 1, of a slice at which a test holds, from what a search for that place finds. Assumes nothing.
-use Rattle.std.specs.Prelude.{◌≡◌, ℕ, zero, suc, ◌+◌, ◌<◌, Bool, true, false, List, [], ◌∷◌, length, get_or, Option, Some, None, refl}
+-- A refusal with the first place, from 1, of a slice at which a test holds, or none, from what a test of all or a search for that place finds. Assumes nothing.
+use Rattle.std.specs.Prelude.{◌≡◌, ℕ, zero, suc, ◌+◌, ◌<◌, Bool, true, false, List, [], ◌∷◌, length, get_or, Option, Some, None, refl, T}
 use Rattle.std.proofs.Common.{arith, sym, add-one}
 use Rattle.std.specs.List.{AllWithin, HoldsAt}
 use Rattle.std.specs.Option.{MatchOption}
+use Rattle.linear.specs.Tests.{any_to}
+use Rattle.linear.proofs.TestLaws.{any_from}
 use Rattle.definitions.specs.Answers.{go, refuse, refuse_first}
 use Rattle.laws.proofs.AnswerLaws.{refuse_at, refuse_next}
+use Rattle.laws.proofs.CheckLaws.{first_goes}
+
+false_not : {b : Bool} → b ≡ false → ¬ (T b)
+false_not e h = rw e at h
 
 module _ {X : Type 0} (n : ℕ) (f : X → Bool) (d : X) (xs : List X) where
   none_before : (k : ℕ) → AllWithin (λ x. f x ≡ false) xs 0 k → refuse_first n k (λ i. f (get_or xs i d)) ≡ go
@@ -24,3 +30,8 @@ module _ {X : Type 0} (n : ℕ) (f : X → Bool) (d : X) (xs : List X) where
 
   pub no_place : Found None → go ≡ refuse_first n (length xs) (λ i. f (get_or xs i d))
   no_place h = sym (none_before (length xs) h)
+
+  pub none_at : any_to (length xs) (λ i. f (get_or xs i d)) ≡ false → go ≡ refuse_first n (length xs) (λ i. f (get_or xs i d))
+  none_at e =
+      let out : ℕ → Bool = λ i. f (get_or xs i d) in
+      sym (first_goes n (length xs) out (λ i l y. false_not e (any_from (length xs) out i l y)))
